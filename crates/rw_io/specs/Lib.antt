@@ -1,0 +1,7 @@
+pub mod Counts
+pub mod Files
+pub mod Pieces
+pub mod States
+pub mod Whole
+pub mod MemForms
+pub mod MemStates

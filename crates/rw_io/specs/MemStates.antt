@@ -1,0 +1,28 @@
+-- What the forms in memory tell, which is everything, and their plans; this project's own.
+use Rattle.std.specs.Prelude.{is_some}
+use Rattle.std.specs.declared.option.Option.TheVariants.{Some}
+use Rattle.rw_io.specs.declared.mem.MemShelf.{MemShelf}
+use Rattle.rw_io.specs.declared.mem.MemSink.{MemSink}
+use Rattle.rw_io.specs.MemForms.{Plan, named_files, created_last}
+use Rattle.rw_io.specs.States.{ShelfState, SinkState}
+
+-- what a shelf in memory tells
+abbrev pub shelf_state : MemShelf → ShelfState
+shelf_state shelf = record {
+  holding = record { files = Some (named_files shelf.files.items); created = Some (created_last shelf.created); has_created = is_some shelf.created };
+  load_faults = shelf.load_faults;
+  put_faults = shelf.put_faults;
+  stalls = shelf.stalls;
+}
+
+-- what a sink in memory tells
+abbrev pub sink_state : MemSink → SinkState
+sink_state sink = record { bytes = Some sink.bytes.items; faults = sink.faults; stalls = sink.stalls }
+
+-- when a shelf in memory is to fail, and how much it takes
+abbrev pub shelf_plan : MemShelf → Plan
+shelf_plan shelf = record { fails = shelf.fails.items; most = shelf.most; calls = shelf.calls }
+
+-- when a sink in memory is to fail, and how much it takes
+abbrev pub sink_plan : MemSink → Plan
+sink_plan sink = record { fails = sink.fails.items; most = sink.most; calls = sink.calls }

@@ -1,0 +1,17 @@
+//! The outside: a shelf of files and a sink of bytes, as traits with a written meaning, with their forms in
+//! memory and over the system.
+#![tactic(auto)]
+
+mod error;
+mod mem;
+mod os;
+mod shelf;
+mod sink;
+mod whole;
+
+pub use error::{LoadError, PutError};
+pub use mem::{MemShelf, MemSink};
+pub use os::{OsShelf, OsSink};
+pub use shelf::Shelf;
+pub use sink::Sink;
+pub use whole::{Unwritten, WriteStop, append_whole, put_whole};
