@@ -1,0 +1,110 @@
+// The command `build`: a binary is made of a file, created under a name, and a line says so.
+ghost use Rattle.std.specs.Prelude.{◌≡◌, ◌⊎◌, List, Ok, Some};
+ghost use Rattle.rw_io.specs.Counts.{Rose};
+ghost use Rattle.rw_io.specs.Files.{NamedFile, content_of};
+ghost use Rattle.rw_io.specs.States.{NoShelfCountFell};
+ghost use Rattle.rwc.specs.Acts.{seen_of};
+ghost use Rattle.rwc.specs.Endings.{Follows, Keeps, WriteRose};
+ghost use Rattle.rwc.specs.Lines.{read_fault_line};
+ghost use Rattle.rwc.specs.Reports.{TextLeads, ContentLeads, BuildReports, build_job, LoadLeads};
+ghost use Rattle.rwc.specs.Stops.{IsStep, IfStopped, status_of, line_of};
+
+use crate::ending::{Done, Stop};
+use crate::lines;
+use crate::perform::{append_piece, create_file, put_piece};
+use rw_io::{LoadError, Shelf, Sink};
+use std::alloc::Global;
+
+/// The greatest length of a file, in bytes.
+const MAX_FILE_LENGTH: u32 = 16_777_216;
+
+/// A file's bytes.
+fn load_file<S: Shelf>(alloc: Global, shelf: &mut S, file: &str) -> Result<Vec<u8>, Stop>
+    ensures content { (files : List NamedFile) → (S.state shelf.old).holding.files ≡ Some files
+        → IsStep (LoadLeads file.now (content_of files file.now)) result }
+    ensures causes { IfStopped result (λ status _. status ≡ 3)
+        (λ line. (line ≡ read_fault_line file.now) × Rose (S.state shelf.old).load_faults (S.state shelf.new).load_faults) (λ _. ⊥) }
+    ensures same { (S.state shelf.new).holding ≡ (S.state shelf.old).holding }
+    ensures counts { NoShelfCountFell (S.state shelf.old) (S.state shelf.new) }
+{
+    match shelf.load(alloc, file, MAX_FILE_LENGTH) {
+        Ok(bytes) => Ok(bytes),
+        Err(LoadError::Missing) => Err(Stop::refused(3, lines::missing(alloc, file))),
+        Err(LoadError::TooLong) => Err(Stop::refused(3, lines::too_long(alloc, file))),
+        Err(LoadError::Failed) => Err(Stop::unread(lines::read_fault(alloc, file))),
+        Err(LoadError::Memory) => Err(Stop::Memory),
+    }
+}
+
+/// The binary of a file's text.
+fn binary_of_text(alloc: Global, file: &str, _bytes: &[u8]) -> Result<Vec<u8>, Stop>
+    ensures leads { IsStep (TextLeads file.now _bytes.now) result }
+    ensures causes { IfStopped result (λ status _. status ≡ 1) (λ _. ⊥) (λ _. ⊥) }
+{
+    Err(Stop::refused(1, lines::text(alloc, file, 1, 1, "NotYetBuilt")))
+}
+
+/// The binary that a file gives.
+fn binary_of_file<S: Shelf>(alloc: Global, shelf: &mut S, file: &str) -> Result<Vec<u8>, Stop>
+    ensures content { (files : List NamedFile) → (S.state shelf.old).holding.files ≡ Some files
+        → IsStep (ContentLeads file.now (content_of files file.now)) result }
+    ensures causes { IfStopped result (λ status _. (status ≡ 1) ⊎ (status ≡ 3))
+        (λ line. (line ≡ read_fault_line file.now) × Rose (S.state shelf.old).load_faults (S.state shelf.new).load_faults) (λ _. ⊥) }
+    ensures same { (S.state shelf.new).holding ≡ (S.state shelf.old).holding }
+    ensures counts { NoShelfCountFell (S.state shelf.old) (S.state shelf.new) }
+{
+    match load_file(alloc, shelf, file) {
+        Ok(bytes) => binary_of_text(alloc, file, &bytes),
+        Err(stop) => Err(stop),
+    }
+}
+
+/// Creates a binary under a name, and says so.
+fn deliver<S: Shelf, O: Sink>(
+    alloc: Global,
+    name: &str,
+    binary: &[u8],
+    shelf: &mut S,
+    out: &mut O,
+) -> Result<Done, Stop>
+    ensures follows { Follows (build_job name.now (Ok binary.now)) (seen_of (S.state shelf.old) (O.state out.old))
+        (seen_of (S.state shelf.new) (O.state out.new)) (status_of result) (line_of result) }
+    ensures causes { IfStopped result (λ _ _. ⊥) (λ _. ⊥)
+        (λ _. WriteRose (S.state shelf.old) (S.state shelf.new) (O.state out.old) (O.state out.new)) }
+    ensures counts { NoShelfCountFell (S.state shelf.old) (S.state shelf.new) }
+{
+    let Ok(line) = lines::wrote(alloc, name, binary.len()) else {
+        return Err(Stop::Memory);
+    };
+    if let Err(stop) = create_file(alloc, shelf, name) {
+        return Err(stop);
+    }
+    if let Err(stop) = append_piece(alloc, shelf, binary) {
+        return Err(stop);
+    }
+    if let Err(stop) = put_piece(alloc, out, line.as_bytes()) {
+        return Err(stop);
+    }
+    Ok(Done::Finished)
+}
+
+/// Builds a binary of a file, creates it under a name, and says so.
+pub fn build<S: Shelf, O: Sink>(
+    alloc: Global,
+    name: &str,
+    file: &str,
+    shelf: &mut S,
+    out: &mut O,
+) -> Result<Done, Stop>
+    ensures keeps { (files : List NamedFile) → (S.state shelf.old).holding.files ≡ Some files
+        → Keeps (BuildReports name.now file.now files) (seen_of (S.state shelf.old) (O.state out.old))
+        (seen_of (S.state shelf.new) (O.state out.new)) (status_of result) (line_of result) }
+    ensures causes { IfStopped result (λ status _. (status ≡ 1) ⊎ (status ≡ 3))
+        (λ _. Rose (S.state shelf.old).load_faults (S.state shelf.new).load_faults)
+        (λ _. WriteRose (S.state shelf.old) (S.state shelf.new) (O.state out.old) (O.state out.new)) }
+{
+    match binary_of_file(alloc, shelf, file) {
+        Ok(binary) => deliver(alloc, name, &binary, shelf, out),
+        Err(stop) => Err(stop),
+    }
+}

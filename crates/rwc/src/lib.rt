@@ -1,0 +1,12 @@
+//! The tool: its commands over a shelf of files and two sinks, and how each of them ends.
+#![tactic(auto)]
+
+mod build;
+mod ending;
+mod lines;
+mod perform;
+mod top;
+mod words;
+
+pub use ending::Status;
+pub use top::rwc;

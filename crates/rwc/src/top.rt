@@ -1,0 +1,82 @@
+// The top call: all that the program does.
+ghost use Rattle.std.specs.Prelude.{◌≡◌, ◌⊎◌, List, Some, None, IsErr, string_bytes, map};
+ghost use Rattle.rw_io.specs.Counts.{Rose};
+ghost use Rattle.rw_io.specs.Files.{NamedFile};
+ghost use Rattle.rwc.specs.Acts.{seen_of};
+ghost use Rattle.rwc.specs.Endings.{Keeps, WriteRose};
+ghost use Rattle.rwc.specs.Lines.{words_line};
+ghost use Rattle.rwc.specs.Outcomes.{Tells, Outcome};
+ghost use Rattle.rwc.specs.Reports.{Reports};
+ghost use Rattle.rwc.specs.Stops.{stop_status, stop_line, status_of, line_of, IfStop, IfStopped};
+ghost use Rattle.rwc.specs.Words.{command_of};
+
+use crate::build::build;
+use crate::ending::{Done, Status, Stop};
+use crate::words::read_words;
+use rw_io::{Shelf, Sink, WriteStop, put_whole};
+use std::alloc::Global;
+
+/// The program's work: the words after the program's name, the files, standard output and standard error.
+/// A fault or a stall of `err` changes nothing in the status; want of memory there makes it 8.
+pub fn rwc<S: Shelf, O: Sink, E: Sink>(
+    alloc: Global,
+    words: &[String],
+    shelf: &mut S,
+    out: &mut O,
+    err: &mut E,
+) -> Status
+    ensures outcome { (files : List NamedFile) → (S.state shelf.old).holding.files ≡ Some files
+        → Outcome (Reports (map string_bytes words.now) files) (S.state shelf.old) (S.state shelf.new)
+        (O.state out.old) (O.state out.new) (E.state err.old) (E.state err.new) result.0 }
+    ensures words_refused { result.0 ≡ 2 → command_of (map string_bytes words.now) ≡ None }
+    ensures not_plain { command_of (map string_bytes words.now) ≡ None → (result.0 ≡ 2) ⊎ (result.0 ≡ 8) }
+    ensures read_fault { result.0 ≡ 4 → Rose (S.state shelf.old).load_faults (S.state shelf.new).load_faults }
+    ensures write_fault { result.0 ≡ 5 → WriteRose (S.state shelf.old) (S.state shelf.new) (O.state out.old) (O.state out.new) }
+{
+    match perform(alloc, words, shelf, out) {
+        Ok(done) => Status(done.status()),
+        Err(stop) => tell(err, &stop),
+    }
+}
+
+/// The job that the words spell.
+fn perform<S: Shelf, O: Sink>(
+    alloc: Global,
+    words: &[String],
+    shelf: &mut S,
+    out: &mut O,
+) -> Result<Done, Stop>
+    ensures keeps { (files : List NamedFile) → (S.state shelf.old).holding.files ≡ Some files
+        → Keeps (Reports (map string_bytes words.now) files) (seen_of (S.state shelf.old) (O.state out.old))
+        (seen_of (S.state shelf.new) (O.state out.new)) (status_of result) (line_of result) }
+    ensures not_plain { command_of (map string_bytes words.now) ≡ None → IsErr result × IfStopped result (λ status _. status ≡ 2) (λ _. ⊥) (λ _. ⊥) }
+    ensures causes { IfStopped result (λ status _. ((status ≡ 2) × (command_of (map string_bytes words.now) ≡ None)) ⊎ ((status ≡ 1) ⊎ (status ≡ 3)))
+        (λ _. Rose (S.state shelf.old).load_faults (S.state shelf.new).load_faults)
+        (λ _. WriteRose (S.state shelf.old) (S.state shelf.new) (O.state out.old) (O.state out.new)) }
+{
+    match read_words(words) {
+        Some(command) => build(alloc, command.name, command.file, shelf, out),
+        None => Err(refuse_words(alloc)),
+    }
+}
+
+fn refuse_words(alloc: Global) -> Stop
+    ensures { IfStop result (λ status line. (status ≡ 2) × (line ≡ words_line)) (λ _. ⊥) (λ _. ⊥) }
+{
+    Stop::refused(2, String::from_str(alloc, "words\n"))
+}
+
+/// Puts the line that says why a job was not done.
+fn tell<E: Sink>(err: &mut E, stop: &Stop) -> Status
+    ensures { Tells (stop_line stop.now) (stop_status stop.now) (E.state err.old) (E.state err.new) result.0 }
+{
+    let line = stop.line();
+    match put_whole(err, line.as_bytes()) {
+        Ok(()) => Status(stop.status()),
+        Err(unwritten) => match unwritten.stop {
+            WriteStop::Failed => Status(stop.status()),
+            WriteStop::Stalled => Status(stop.status()),
+            WriteStop::Memory => Status(8),
+        },
+    }
+}

@@ -1,0 +1,42 @@
+// The words of the command line, by the plain form.
+ghost use Rattle.std.specs.Prelude.{◌≡◌, map, string_bytes};
+ghost use Rattle.std.specs.Option.{option_map};
+ghost use Rattle.rwc.specs.Words.{command_of, is_plain_name};
+ghost use Rattle.rwc.specs.Commands.{spelled_command};
+
+/// The command `build`: a binary under `name` of the file `file`.
+#[derive(Clone, Copy)]
+pub struct BuildCommand<'a> {
+    pub name: &'a str,
+    pub file: &'a str,
+}
+
+/// The command that words of the plain form spell.
+pub fn read_words<'a>(words: &'a [String]) -> Option<BuildCommand<'a>>
+    ensures { option_map spelled_command result ≡ command_of (map string_bytes words.now) }
+{
+    let [command, flag, name, file] = words else {
+        return None;
+    };
+    if command.as_str() == "build"
+        && flag.as_str() == "-o"
+        && is_plain(name.as_str())
+        && is_plain(file.as_str())
+    {
+        Some(BuildCommand {
+            name: name.as_str(),
+            file: file.as_str(),
+        })
+    } else {
+        None
+    }
+}
+
+fn is_plain(word: &str) -> bool
+    ensures { result ≡ is_plain_name word.now }
+{
+    match word.as_bytes() {
+        [] => false,
+        [first, ..] => *first != b'-',
+    }
+}

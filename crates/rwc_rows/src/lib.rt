@@ -1,0 +1,7 @@
+//! Tests of the tool over a shelf and sinks in memory.
+#![tactic(auto)]
+
+#[cfg(test)]
+mod build_rows;
+#[cfg(test)]
+mod io_rows;
