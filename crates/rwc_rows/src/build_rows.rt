@@ -69,6 +69,16 @@ fn texts(alloc: Global, words: &[&str]) -> Result<Vec<String>, AllocError> {
     Ok(texts)
 }
 
+fn shelf_of(alloc: Global, row: &Row) -> Result<MemShelf, AllocError> {
+    let mut files = Vec::new(alloc);
+    files.push((
+        String::from_str(alloc, "p.rich")?,
+        SEVEN.as_bytes().to_vec(alloc)?,
+    ))?;
+    let fails = row.shelf_fails.to_vec(alloc)?;
+    Ok(MemShelf::new(alloc, files, fails, row.most))
+}
+
 fn has_created(shelf: &MemShelf, want: Option<&[u8]>) -> bool {
     match (shelf.created(), want) {
         (Some(bytes), Some(want)) => bytes == want,
@@ -77,24 +87,29 @@ fn has_created(shelf: &MemShelf, want: Option<&[u8]>) -> bool {
     }
 }
 
+fn holds(sink: &MemSink, want: &str) -> bool {
+    sink.bytes() == want.as_bytes()
+}
+
+// Whether the call does what the row says.
+fn is_as_told(alloc: Global, row: &Row) -> Result<bool, AllocError> {
+    let mut shelf = shelf_of(alloc, row)?;
+    let mut out = MemSink::new(alloc, row.out_fails.to_vec(alloc)?, row.most);
+    let mut err = MemSink::new(alloc, Vec::new(alloc), row.most);
+    let words = texts(alloc, row.words)?;
+    let status = rwc(alloc, &words, &mut shelf, &mut out, &mut err);
+    Ok(
+        status.0 == row.status
+            && holds(&out, row.out)
+            && holds(&err, row.err)
+            && has_created(&shelf, row.created),
+    )
+}
+
 #[test]
 fn builds_and_refuses(rt: HostRuntime) -> Result<(), Fail> {
-    let alloc = rt.alloc();
     for row in &ROWS {
-        let mut files = Vec::new(alloc);
-        files.push((
-            String::from_str(alloc, "p.rich")?,
-            SEVEN.as_bytes().to_vec(alloc)?,
-        ))?;
-        let mut shelf = MemShelf::new(alloc, files, row.shelf_fails.to_vec(alloc)?, row.most);
-        let mut out = MemSink::new(alloc, row.out_fails.to_vec(alloc)?, row.most);
-        let mut err = MemSink::new(alloc, Vec::new(alloc), row.most);
-        let words = texts(alloc, row.words)?;
-        let status = rwc(alloc, &words, &mut shelf, &mut out, &mut err);
-        assert_eq!(rt; status.0, row.status, "{:?}", row.words);
-        assert_eq!(rt; out.bytes(), row.out.as_bytes(), "{:?}", row.words);
-        assert_eq!(rt; err.bytes(), row.err.as_bytes(), "{:?}", row.words);
-        assert!(rt; has_created(&shelf, row.created), "{:?}", row.words);
+        assert!(rt; is_as_told(rt.alloc(), row)?, "{:?}", row.words);
     }
     Ok(())
 }
