@@ -1,0 +1,14 @@
+//! Trees of WebAssembly 1.0 modules, integer profile, and the opcode and immediates of each instruction.
+#![tactic(auto)]
+
+mod instructions;
+mod list;
+mod modules;
+mod types;
+
+pub use instructions::WInstr;
+pub use list::List;
+pub use modules::{
+    Code, DataSeg, ElemSeg, Export, ExportKind, Import, ImportKind, LocalRun, WGlobal, WModule,
+};
+pub use types::{FuncType, Limits, ValTy};
