@@ -1,11 +1,14 @@
 //! Trees of WebAssembly 1.0 modules, integer profile, and the opcode and immediates of each instruction.
 #![tactic(auto)]
 
+mod immediate;
 mod instructions;
 mod list;
 mod modules;
+mod opcode;
 mod types;
 
+pub use immediate::ImmediateRef;
 pub use instructions::WInstr;
 pub use list::List;
 pub use modules::{
