@@ -15,3 +15,6 @@ pub use modules::{
     Code, DataSeg, ElemSeg, Export, ExportKind, Import, ImportKind, LocalRun, WGlobal, WModule,
 };
 pub use types::{FuncType, Limits, ValTy};
+
+#[cfg(test)]
+mod tests;
