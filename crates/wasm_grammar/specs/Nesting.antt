@@ -1,10 +1,6 @@
 -- How deep blocks nest, which bounds the host's stack while a body is read or written (this project's own).
 use Rattle.std.specs.Prelude.{ℕ, ◌+◌, ◌≤◌, max, List, [], ◌∷◌, All}
 use Rattle.wasm_ast.specs.declared.instructions.WInstr.{WInstr}
-use Rattle.wasm_ast.specs.declared.modules.Code.{Code}
-use Rattle.wasm_ast.specs.declared.modules.WGlobal.{WGlobal}
-use Rattle.wasm_ast.specs.declared.modules.ElemSeg.{ElemSeg}
-use Rattle.wasm_ast.specs.declared.modules.DataSeg.{DataSeg}
 use Rattle.wasm_ast.specs.declared.modules.WModule.{WModule}
 use Rattle.wasm_ast.specs.Immediates.{Immediate, Body, Bodies}
 use Rattle.wasm_ast.specs.Folds.{fold_by}
