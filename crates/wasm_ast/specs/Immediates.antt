@@ -142,3 +142,9 @@ map_nested f (Const32 n) = Const32 n
 map_nested f (Const64 n) = Const64 n
 map_nested f (Body t xs) = Body t (map f xs)
 map_nested f (Bodies t xs ys) = Bodies t (map f xs) (map f ys)
+
+-- immediates that nest no instruction
+abbrev pub IsPlain : {A : Type 0} → Immediate A → Type 0
+IsPlain (Body t xs) = ⊥
+IsPlain (Bodies t xs ys) = ⊥
+IsPlain _ = Unit {0}
