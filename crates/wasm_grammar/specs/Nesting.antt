@@ -24,7 +24,11 @@ nesting = fold_by (λ _ immediate. immediate_nesting (λ depth. depth) immediate
 abbrev pub NestsAtMost : ℕ → List WInstr → Type 0
 NestsAtMost most xs = greatest nesting xs ≤ most
 
--- the same of each body and constant expression of a module
+-- the most blocks, loops and ifs that this project's profile has open at once in a body
+abbrev pub nesting_limit : ℕ
+nesting_limit = 1000
+
+-- each body and constant expression of a module nests at most so deep
 pub record ModuleNestsAtMost (most : ℕ) (m : WModule) : Type 0 where
   pub codes : All (λ c. NestsAtMost most c.body) m.codes
   pub globals : All (λ g. nesting g.init ≤ most) m.globals
