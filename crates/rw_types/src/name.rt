@@ -1,0 +1,5 @@
+/// TEMP
+#[derive(Drop)]
+pub struct Name {
+    pub bytes: u8,
+}
