@@ -1,6 +1,5 @@
-use sqlite_items::Boxed;
-
 use crate::list::List;
+use sqlite_items::Boxed;
 
 /// Whether a value may be dropped and copied (`Unr`) or is used exactly once (`Lin`). `Unr` is below `Lin`.
 #[derive(Clone, Copy, PartialEq, Eq, Debug)]
