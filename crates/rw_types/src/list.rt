@@ -1,9 +1,13 @@
-ghost use Rattle.std.specs.Prelude.{◌≡◌, ◌↔◌, ◌^◌, ◌<◌, [], ◌∷◌, ◌++◌, length, IsTrue, OnOk, OnErr, MatchOption};
+ghost use Rattle.std.specs.Prelude.{◌≡◌, ◌↔◌, ◌^◌, ◌<◌, ◌≤◌, [], ◌∷◌, ◌++◌, length, slice_get, IsTrue, IfOk, OnOk, OnErr, MatchOption, MatchResult};
+ghost use Rattle.std.specs.Option.{option_copied};
 
 use std::alloc::{AllocError, Global};
 use std::marker::Model;
 
-/// A vector of fewer than 2^32 entries, which contracts see as the list of its entries.
+/// The most entries that a list can have.
+const MAX_LEN: usize = u32::MAX as usize;
+
+/// A vector of fewer than 2^32 entries. Contracts see it as the list of its entries.
 #[derive(Debug, Drop)]
 pub struct List<T> {
     items: Vec<T>,
@@ -32,10 +36,9 @@ impl<T> List<T> {
         }
     }
 
-    /// The number of entries.
     pub fn len(&self) -> usize
-        ensures value { result ≡ length self.now }
-        ensures bound { result < 2 ^ 32 }
+        ensures count { result ≡ length self.now }
+        ensures bound { length self.now < 2 ^ 32 }
     {
         self.items.len()
     }
@@ -48,13 +51,20 @@ impl<T> List<T> {
 
     /// The entries, in order.
     pub fn as_slice(&self) -> &[T]
-        ensures value { result.now ≡ self.now }
-        ensures bound { length result.now < 2 ^ 32 }
+        ensures items { result.now ≡ self.now }
+        ensures bound { length self.now < 2 ^ 32 }
     {
         self.items.as_slice()
     }
 
-    /// Takes the last entry off.
+    /// The entry with this number, counted from 0.
+    pub fn get(&self, at: usize) -> Option<&T>
+        ensures { option_copied result ≡ slice_get self.now at }
+    {
+        self.items.get(at)
+    }
+
+    /// Takes the last entry off and gives it back.
     pub fn pop(&mut self) -> Option<T>
         ensures { MatchOption result ((self.old ≡ []) × (self.new ≡ [])) (λ last. self.old ≡ self.new ++ last ∷ []) }
     {
@@ -63,15 +73,61 @@ impl<T> List<T> {
 }
 
 impl<T: Drop> List<T> {
-    /// Puts `item` at the end. A list of 2^32 - 1 entries takes no more.
+    /// The entries of a vector. `AllocError` exactly where there are 2^32 or more.
+    pub fn from_vec(items: Vec<T>) -> Result<List<T>, AllocError>
+        ensures { MatchResult result (λ list. list ≡ items.items) (λ _. 2 ^ 32 ≤ length items.items) }
+    {
+        if items.len() > MAX_LEN {
+            return Err(AllocError);
+        }
+        Ok(List { items })
+    }
+
+    /// Puts `item` at the end. `AllocError` where memory is wanting, and where the list is full.
     pub fn push(&mut self, item: T) -> Result<(), AllocError>
         ensures ok { OnOk result (self.new ≡ self.old ++ item ∷ []) }
         ensures err { OnErr result (self.new ≡ self.old) }
     {
-        if self.items.len() >= u32::MAX as usize {
+        if self.items.len() >= MAX_LEN {
             return Err(AllocError);
         }
         self.items.push(item)?;
+        Ok(())
+    }
+}
+
+impl<T: Copy> List<T> {
+    /// A copy of these entries. `AllocError` where memory is wanting, and where there are 2^32 or more.
+    pub fn from_slice(alloc: Global, items: &[T]) -> Result<List<T>, AllocError>
+        ensures { IfOk result (λ list. list ≡ items.now) }
+    {
+        List::from_vec(Vec::from_slice(alloc, items)?)
+    }
+}
+
+#[cfg(test)]
+mod tests {
+    use super::*;
+    use std::test::Fail;
+
+    #[test]
+    fn holds_its_entries(rt: HostRuntime) -> Result<(), Fail> {
+        let mut list = List::new(rt.alloc());
+        assert!(rt; list.is_empty());
+        list.push(7)?;
+        list.push(9)?;
+        assert_eq!(rt; list.as_slice(), [7u32, 9].as_slice());
+        assert_eq!(rt; list.get(1).copied(), Some(9));
+        assert_eq!(rt; list.get(2).copied(), None);
+        assert_eq!(rt; list.pop(), Some(9));
+        assert_eq!(rt; list.len(), 1);
+        Ok(())
+    }
+
+    #[test]
+    fn copies_slices(rt: HostRuntime) -> Result<(), Fail> {
+        let list = List::from_slice(rt.alloc(), b"main")?;
+        assert_eq!(rt; list.as_slice(), b"main".as_slice());
         Ok(())
     }
 }

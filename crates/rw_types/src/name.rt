@@ -62,3 +62,44 @@ fn has_name_bytes(bytes: &[u8]) -> bool
 {
     bytes.iter().all(|byte| byte.is_ascii_lowercase() || byte.is_ascii_digit() || *byte == b'_')
 }
+
+#[cfg(test)]
+mod tests {
+    use super::*;
+    use std::test::Fail;
+
+    #[test]
+    fn tells_names(rt: HostRuntime) -> Result<(), Fail> {
+        let rows = [
+            ("main", true),
+            ("a", true),
+            ("_", true),
+            ("0z", true),
+            ("", false),
+            ("Main", false),
+            ("a-b", false),
+            ("a.b", false),
+            ("a b", false),
+            ("é", false),
+            (
+                "a123456789b123456789c123456789d123456789e123456789f123456789g123",
+                true,
+            ),
+            (
+                "a123456789b123456789c123456789d123456789e123456789f123456789g1234",
+                false,
+            ),
+        ];
+        for (text, want) in rows {
+            let bytes = List::from_slice(rt.alloc(), text.as_bytes())?;
+            match Name::new(bytes) {
+                Some(name) => {
+                    assert!(rt; want, "{text}");
+                    assert_eq!(rt; name.as_slice(), text.as_bytes());
+                }
+                None => assert!(rt; !want, "{text}"),
+            }
+        }
+        Ok(())
+    }
+}
