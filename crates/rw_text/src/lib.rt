@@ -1,5 +1,5 @@
 //! The reader of Rich texts.
 #![tactic(auto)]
 
-mod tokens;
+pub mod tokens;
 

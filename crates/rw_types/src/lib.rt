@@ -11,6 +11,6 @@ mod types;
 pub use instrs::{BlockSig, Instr, LocalTy};
 pub use list::List;
 pub use modules::{ExportDef, FuncDef, GlobalDef, ImportDef, Module};
-pub use name::Name;
+pub use name::{Name, is_name};
 pub use numbers::NumName;
 pub use types::{Arg, Binder, FunType, Heap, Mem, Pre, Priv, Qual, Slot, Ty};
