@@ -1,5 +1,5 @@
 -- The tokens of Rich texts, and how bytes spell them. This project's own.
-use Rattle.std.specs.Prelude.{ℕ, ◌≡◌, ◌≤◌, ◌<◌, ◌==◌, ◌||◌, Bool, false, not, List, [], ◌∷◌, ◌++◌, IsTrue, ⊤, codes, length}
+use Rattle.std.specs.Prelude.{ℕ, ◌≡◌, ◌≤◌, ◌<◌, ◌==◌, ◌||◌, Bool, false, not, List, [], ◌∷◌, ◌++◌, IsTrue, ⊤, codes, length, MatchBool}
 use Rattle.std.specs.List.{list_all}
 use Rattle.std.specs.Char.{is_ascii_alphanumeric}
 use Rattle.rw_types.specs.Names.{IsName}
@@ -76,3 +76,7 @@ StartsNone bytes = (t : Token) (rest : List ℕ) → Starts bytes t rest → ⊥
 -- the same after any blanks
 abbrev pub BeginsNone : List ℕ → Type 0
 BeginsNone bytes = (t : Token) (rest : List ℕ) → Begins bytes t rest → ⊥
+
+-- whether the tokens of `text` come next: if they do, `new` is what follows them in `old`
+abbrev pub Accepts : List ℕ → List ℕ → List ℕ → Bool → Type 0
+Accepts text old new came = (ts : List Token) → SpellsTokens text ts → MatchBool came (Leads old ts new) ((rest : List ℕ) → Leads old ts rest → ⊥)
