@@ -5,6 +5,7 @@ mod build;
 mod ending;
 mod lines;
 mod perform;
+mod sources;
 mod top;
 mod words;
 

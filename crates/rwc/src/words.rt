@@ -1,8 +1,10 @@
 // The words of the command line, by the plain form.
 ghost use Rattle.std.specs.Prelude.{◌≡◌, map, string_bytes};
 ghost use Rattle.std.specs.Option.{option_map};
-ghost use Rattle.rwc.specs.Words.{command_of, is_plain_name};
+ghost use Rattle.rwc.specs.Words.{command_of, is_plain_name, is_source_file};
 ghost use Rattle.rwc.specs.Commands.{spelled_command};
+
+use crate::sources::{is_plain, is_source};
 
 /// The command `build`: a binary under `name` of the file `file`.
 #[derive(Clone, Copy)]
@@ -21,7 +23,7 @@ pub fn read_words<'a>(words: &'a [String]) -> Option<BuildCommand<'a>>
     if command.as_str() == "build"
         && flag.as_str() == "-o"
         && is_plain(name.as_str())
-        && is_plain(file.as_str())
+        && is_source(file.as_str())
     {
         Some(BuildCommand {
             name: name.as_str(),
@@ -29,14 +31,5 @@ pub fn read_words<'a>(words: &'a [String]) -> Option<BuildCommand<'a>>
         })
     } else {
         None
-    }
-}
-
-fn is_plain(word: &str) -> bool
-    ensures { result ≡ is_plain_name word.now }
-{
-    match word.as_bytes() {
-        [] => false,
-        [first, ..] => *first != b'-',
     }
 }

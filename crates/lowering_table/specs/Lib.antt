@@ -1,0 +1,5 @@
+pub mod Frames
+pub mod Rows
+pub mod TypeUses
+pub mod Allocators
+pub mod Modules

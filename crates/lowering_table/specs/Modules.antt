@@ -1,0 +1,168 @@
+-- The lowered module of a linked program. This project's own, in the terms of the WebAssembly Core Specification 1.0,
+-- section 2.5.
+use Rattle.std.specs.Prelude.{ℕ, zero, suc, ◌+◌, ◌-◌, ◌*◌, max, map, replicate, codes, List, [], ◌∷◌, ◌++◌, length, true, Some, None}
+use Rattle.std.specs.Int.{to_le_bytes, w64}
+use Rattle.wasm_ast.specs.declared.types.ValTy.TheVariants.{I32, I64}
+use Rattle.wasm_ast.specs.declared.types.FuncType.{FuncType}
+use Rattle.wasm_ast.specs.declared.instructions.WInstr as w
+use Rattle.wasm_ast.specs.declared.modules.ImportKind.TheVariants as import_kind
+use Rattle.wasm_ast.specs.declared.modules.ExportKind.TheVariants as export_kind
+use Rattle.wasm_ast.specs.declared.modules.Code.{Code}
+use Rattle.wasm_ast.specs.declared.modules.Export.{Export}
+use Rattle.wasm_ast.specs.declared.modules.WGlobal.{WGlobal}
+use Rattle.wasm_ast.specs.declared.modules.LocalRun.{LocalRun}
+use Rattle.wasm_ast.specs.declared.modules.WModule.{WModule}
+use Rattle.rich_meaning.specs.Sizes.{size, sizes}
+use Rattle.rw_program.specs.declared.linked.LinkedFunc.{LinkedFunc}
+use Rattle.rw_program.specs.declared.linked.LinkedGlobal.{LinkedGlobal}
+use Rattle.rw_program.specs.Programs.{Program}
+use Rattle.lowering_table.specs.Frames.{Frame, room_of, first_operand, declared_locals}
+use Rattle.lowering_table.specs.Rows.{rows, gives}
+use Rattle.lowering_table.specs.TypeUses.{first_uses, type_index}
+use Rattle.lowering_table.specs.Allocators.{Allocators, allocators}
+
+-- pages of 65,536 bytes: those of the linear part, and those of the unrestricted region
+pub record PageCounts : Type 0 where
+  pub lin : ℕ
+  pub unr : ℕ
+
+-- the pages of the memory at the start, and at most
+abbrev pub first_pages : PageCounts → ℕ
+first_pages pages = pages.lin + pages.unr
+
+abbrev pub most_pages : PageCounts → ℕ
+most_pages pages = pages.lin + pages.unr
+
+-- the address at which the unrestricted region begins
+abbrev pub region_start : PageCounts → ℕ
+region_start pages = 65536 * pages.lin
+
+-- Wasm functions before the linked ones: the print, and the three of the allocators
+abbrev pub functions_before : ℕ
+functions_before = 4
+
+-- Wasm globals before the result globals: the trap code, and the next address of the unrestricted region
+abbrev pub globals_before : ℕ
+globals_before = 2
+
+-- the words of a function's frame
+abbrev pub frame_of : LinkedFunc → Frame
+frame_of f = record {
+  params = sizes f.ty.binders f.ty.params;
+  slots = total f.locals;
+  operands = room_of f.notes (sizes f.ty.binders f.ty.results);
+}
+  where
+    total : List ℕ → ℕ
+    total [] = 0
+    total (s ∷ ss) = s + total ss
+
+-- a run of 64-bit locals, and a body
+abbrev pub code_of : ℕ → List w.WInstr → Code
+code_of locals body = record { locals = record { count = locals; ty = I64 } ∷ []; body = body }
+
+-- the code of a linked function: its list, and then its result words go to the result globals
+abbrev pub low_function : LinkedFunc → Code
+low_function f =
+    let frame = frame_of f in
+    code_of (declared_locals frame)
+        (rows (first_operand frame) f.body f.notes ++ gives (sizes f.ty.binders f.ty.results) (first_operand frame) globals_before)
+
+-- the greatest number of result words of a function
+abbrev pub result_words : List LinkedFunc → ℕ
+result_words [] = 0
+result_words (f ∷ fs) = max (sizes f.ty.binders f.ty.results) (result_words fs)
+
+-- the words of all globals together
+abbrev pub global_words : List LinkedGlobal → ℕ
+global_words [] = 0
+global_words (g ∷ gs) = size [] g.ty + global_words gs
+
+-- the first values of the globals are computed one after another, and put into the Wasm globals from one on
+abbrev pub initialisers : ℕ → List LinkedGlobal → List w.WInstr
+initialisers global [] = []
+initialisers global (g ∷ gs) =
+    rows 0 g.body g.notes ++ (gives (size [] g.ty) 0 global ++ initialisers (global + size [] g.ty) gs)
+
+-- the greatest of the initialisers' heights and of the words of their values
+abbrev pub initialiser_room : List LinkedGlobal → ℕ
+initialiser_room [] = 0
+initialiser_room (g ∷ gs) = max (room_of g.notes (size [] g.ty)) (initialiser_room gs)
+
+-- the exported main: the initialisers, the program's main, and its result
+abbrev pub main_code : Program → Code
+main_code p = code_of (initialiser_room p.globals + 2)
+    (initialisers (globals_before + result_words p.funcs) p.globals ++ (w.Call (functions_before + p.main) ∷ w.GlobalGet globals_before ∷ []))
+
+-- one i64 to nothing, one i64 to one i64, and nothing to one i64
+abbrev pub print_type : FuncType
+print_type = record { params = I64 ∷ []; result = None }
+
+abbrev pub alloc_type : FuncType
+alloc_type = record { params = I64 ∷ []; result = Some I64 }
+
+abbrev pub start_type : FuncType
+start_type = record { params = []; result = Some I64 }
+
+-- the parameter words; results go through globals
+abbrev pub low_type : LinkedFunc → FuncType
+low_type f = record { params = replicate (sizes f.ty.binders f.ty.params) I64; result = None }
+
+-- the types of all functions, by first use
+abbrev pub low_types : Program → List FuncType
+low_types p = first_uses [] (print_type ∷ alloc_type ∷ (map low_type p.funcs ++ start_type ∷ []))
+
+-- a global of 64 bits that can be set
+abbrev pub word_global : ℕ → WGlobal
+word_global n = record { ty = I64; mutable = true; init = w.I64Const n }
+
+-- the trap code, the next address of the region, the result globals and the words of the program's globals
+abbrev pub low_globals : Program → PageCounts → List WGlobal
+low_globals p pages =
+    record { ty = I32; mutable = true; init = w.I32Const 0 }
+    ∷ word_global (region_start pages)
+    ∷ replicate (result_words p.funcs + global_words p.globals) (word_global 0)
+
+-- the Wasm function of the exported main
+abbrev pub main_function : Program → ℕ
+main_function p = functions_before + length p.funcs
+
+-- `main`, `memory` and `trap_code`
+abbrev pub low_exports : Program → List Export
+low_exports p =
+    record { name = codes "main"; kind = export_kind.Func; index = main_function p }
+    ∷ record { name = codes "memory"; kind = export_kind.Memory; index = 0 }
+    ∷ record { name = codes "trap_code"; kind = export_kind.Global; index = 0 }
+    ∷ []
+
+-- so many numbers from one on
+abbrev pub counted : ℕ → ℕ → List ℕ
+counted zero from = []
+counted (suc n) from = from ∷ counted n (suc from)
+
+-- the free list at the start: the head at byte 8 names the block at 24, whose header at byte 16 has its words
+abbrev pub free_list_bytes : PageCounts → List ℕ
+free_list_bytes pages = to_le_bytes w64 24 ++ to_le_bytes w64 (8192 * pages.lin - 3)
+
+-- the lowered module, with these codes of the allocators
+abbrev pub low_module_with : Allocators → Program → PageCounts → WModule
+low_module_with codes_of p pages =
+    let types = low_types p in
+    record {
+      types = types;
+      imports = record { module = codes "rw"; name = codes "print"; what = import_kind.Func 0 } ∷ [];
+      funcs = type_index alloc_type types ∷ type_index print_type types ∷ type_index alloc_type types
+          ∷ (map (λ f. type_index (low_type f) types) p.funcs ++ type_index start_type types ∷ []);
+      tables = record { min = length p.funcs; max = Some (length p.funcs) } ∷ [];
+      memories = record { min = first_pages pages; max = Some (most_pages pages) } ∷ [];
+      globals = low_globals p pages;
+      exports = low_exports p;
+      start = None;
+      elements = record { table = 0; offset = w.I32Const 0; funcs = counted (length p.funcs) functions_before } ∷ [];
+      codes = codes_of.alloc_lin ∷ codes_of.free_lin ∷ codes_of.alloc_unr ∷ (map low_function p.funcs ++ main_code p ∷ []);
+      segments = record { memory = 0; offset = w.I32Const 8; bytes = free_list_bytes pages } ∷ [];
+    }
+
+-- the lowered module
+abbrev pub low_module : Program → PageCounts → WModule
+low_module p pages = low_module_with allocators p pages
