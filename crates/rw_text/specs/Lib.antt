@@ -1,0 +1,4 @@
+pub mod Tokens
+pub mod Numbers
+pub mod Programs
+pub mod Spells

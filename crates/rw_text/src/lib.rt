@@ -1,0 +1,5 @@
+//! The reader of Rich texts.
+#![tactic(auto)]
+
+pub mod tokens;
+

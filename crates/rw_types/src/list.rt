@@ -1,0 +1,133 @@
+ghost use Rattle.std.specs.Prelude.{◌≡◌, ◌↔◌, ◌^◌, ◌<◌, ◌≤◌, [], ◌∷◌, ◌++◌, length, slice_get, IsTrue, IfOk, OnOk, OnErr, MatchOption, MatchResult};
+ghost use Rattle.std.specs.Option.{option_copied};
+
+use std::alloc::{AllocError, Global};
+use std::marker::Model;
+
+/// The most entries that a list can have.
+const MAX_LEN: usize = u32::MAX as usize;
+
+/// A vector of fewer than 2^32 entries. Contracts see it as the list of its entries.
+#[derive(Debug, Drop)]
+pub struct List<T> {
+    items: Vec<T>,
+}
+
+impl<T> Model for List<T> {
+    ghost use Rattle.std.specs.Prelude.{List, ◌<◌, ◌^◌, length};
+    ghost use Rattle.std.specs.Coded.{coded_list};
+
+    ghost Value = { List T };
+
+    ghost coded = { coded_list T.code };
+
+    ghost view = { λ l. l.items.items };
+
+    ghost invariant = { λ l. length l.items.items < 2 ^ 32 };
+}
+
+impl<T> List<T> {
+    /// The list of no entries, which takes no memory.
+    pub fn new(alloc: Global) -> List<T>
+        ensures { result ≡ [] }
+    {
+        List {
+            items: Vec::new(alloc),
+        }
+    }
+
+    pub fn len(&self) -> usize
+        ensures count { result ≡ length self.now }
+        ensures bound { length self.now < 2 ^ 32 }
+    {
+        self.items.len()
+    }
+
+    pub fn is_empty(&self) -> bool
+        ensures { IsTrue result ↔ (self.now ≡ []) }
+    {
+        self.items.is_empty()
+    }
+
+    /// The entries, in order.
+    pub fn as_slice(&self) -> &[T]
+        ensures items { result.now ≡ self.now }
+        ensures bound { length self.now < 2 ^ 32 }
+    {
+        self.items.as_slice()
+    }
+
+    /// The entry with this number, counted from 0.
+    pub fn get(&self, at: usize) -> Option<&T>
+        ensures { option_copied result ≡ slice_get self.now at }
+    {
+        self.items.get(at)
+    }
+
+    /// Takes the last entry off and gives it back.
+    pub fn pop(&mut self) -> Option<T>
+        ensures { MatchOption result ((self.old ≡ []) × (self.new ≡ [])) (λ last. self.old ≡ self.new ++ last ∷ []) }
+    {
+        self.items.pop()
+    }
+}
+
+impl<T: Drop> List<T> {
+    /// The entries of a vector. `AllocError` exactly where there are 2^32 or more.
+    pub fn from_vec(items: Vec<T>) -> Result<List<T>, AllocError>
+        ensures { MatchResult result (λ list. list ≡ items.items) (λ _. 2 ^ 32 ≤ length items.items) }
+    {
+        if items.len() > MAX_LEN {
+            return Err(AllocError);
+        }
+        Ok(List { items })
+    }
+
+    /// Puts `item` at the end. `AllocError` where memory is wanting, and where the list is full.
+    pub fn push(&mut self, item: T) -> Result<(), AllocError>
+        ensures ok { OnOk result (self.new ≡ self.old ++ item ∷ []) }
+        ensures err { OnErr result (self.new ≡ self.old) }
+    {
+        if self.items.len() >= MAX_LEN {
+            return Err(AllocError);
+        }
+        self.items.push(item)?;
+        Ok(())
+    }
+}
+
+impl<T: Copy> List<T> {
+    /// A copy of these entries. `AllocError` where memory is wanting, and where there are 2^32 or more.
+    pub fn from_slice(alloc: Global, items: &[T]) -> Result<List<T>, AllocError>
+        ensures { IfOk result (λ list. list ≡ items.now) }
+    {
+        List::from_vec(Vec::from_slice(alloc, items)?)
+    }
+}
+
+#[cfg(test)]
+mod tests {
+    use super::*;
+    use std::test::Fail;
+
+    #[test]
+    fn holds_its_entries(rt: HostRuntime) -> Result<(), Fail> {
+        let mut list = List::new(rt.alloc());
+        assert!(rt; list.is_empty());
+        list.push(7)?;
+        list.push(9)?;
+        assert_eq!(rt; list.as_slice(), [7u32, 9].as_slice());
+        assert_eq!(rt; list.get(1).copied(), Some(9));
+        assert_eq!(rt; list.get(2).copied(), None);
+        assert_eq!(rt; list.pop(), Some(9));
+        assert_eq!(rt; list.len(), 1);
+        Ok(())
+    }
+
+    #[test]
+    fn copies_slices(rt: HostRuntime) -> Result<(), Fail> {
+        let list = List::from_slice(rt.alloc(), b"main")?;
+        assert_eq!(rt; list.as_slice(), b"main".as_slice());
+        Ok(())
+    }
+}

@@ -1,0 +1,44 @@
+use crate::instrs::Instr;
+use crate::list::List;
+use crate::name::Name;
+use crate::types::{FunType, Ty};
+
+/// A module. Its functions are numbered from 0 on, the imports first.
+#[derive(Drop)]
+pub struct Module {
+    pub imports: List<ImportDef>,
+    pub funcs: List<FuncDef>,
+    pub globals: List<GlobalDef>,
+    pub exports: List<ExportDef>,
+}
+
+/// An import: a function that another module exports under this name.
+#[derive(Drop)]
+pub struct ImportDef {
+    pub module: Name,
+    pub name: Name,
+    pub ty: FunType,
+}
+
+/// A function: its type, the sizes in words of the slots of its declared locals, and its body.
+#[derive(Drop)]
+pub struct FuncDef {
+    pub ty: FunType,
+    pub locals: List<u32>,
+    pub body: List<Instr>,
+}
+
+/// A global: whether it can be set, its type, and the instructions that give its first value.
+#[derive(Drop)]
+pub struct GlobalDef {
+    pub mutable: bool,
+    pub ty: Ty,
+    pub body: List<Instr>,
+}
+
+/// An export: a name, and the number of the function that it names.
+#[derive(Drop)]
+pub struct ExportDef {
+    pub name: Name,
+    pub func: u32,
+}
