@@ -1,0 +1,8 @@
+//! What Rich modules mean: sizes of types, the rules of bodies, their points, and what breaks a rule.
+#![tactic(auto)]
+
+mod notes;
+mod rules;
+
+pub use notes::{Note, Place};
+pub use rules::Rule;

@@ -1,0 +1,77 @@
+ghost use Rattle.std.specs.Prelude.{◌≡◌, ◌<◌, length, slice_get, Some};
+ghost use Rattle.rich_meaning.specs.Derivations.{IsTyped};
+
+use rich_meaning::{Note, Place, Rule};
+use rw_types::{List, Module, Ty};
+use std::marker::Model;
+
+/// What a check answers in place of a module. `Refused` tells the first violation.
+#[derive(Drop)]
+pub enum CheckError {
+    Refused {
+        place: Place,
+        rule: Rule,
+        found: Option<Ty>,
+        expected: Option<Ty>,
+    },
+    Memory,
+}
+
+/// A well-typed module, with the notes of its bodies: first those of its functions, then those of its
+/// globals. Contracts see both.
+#[derive(Drop)]
+pub struct Checked {
+    source: Module,
+    notes: List<List<Note>>,
+}
+
+impl Model for Checked {
+    ghost use Rattle.rw_program.specs.Modules.{TypedModule};
+    ghost use Rattle.rich_meaning.specs.Derivations.{IsTyped};
+    ghost use Rattle.std.specs.Coded.{codes};
+    ghost use Rattle.rw_types.specs.contracts.instrs.Instr as instr;
+    ghost use Rattle.rw_types.specs.contracts.types.Ty as ty;
+
+    ghost Value = { TypedModule };
+
+    ghost coded = { Prim.hlevel (codes, instr.the_row.coded, ty.the_row.coded) };
+
+    ghost view = { λ c. record { source = c.source; notes = c.notes } };
+
+    ghost invariant = { λ c. IsTyped c.source c.notes };
+}
+
+impl Checked {
+    /// The module with these notes.
+    pub fn new(source: Module, notes: List<List<Note>>) -> Checked
+        requires { IsTyped source notes }
+        ensures { result ≡ record { source = source; notes = notes } }
+    {
+        Checked { source, notes }
+    }
+
+    /// The module that was checked.
+    pub fn module(&self) -> &Module
+        ensures value { result.now ≡ self.now.source }
+        ensures typed { IsTyped self.now.source self.now.notes }
+    {
+        &self.source
+    }
+
+    /// The notes of the body with this number, one for each instruction in the order of the text.
+    pub fn notes(&self, body: u32) -> &List<Note>
+        requires { body < length self.now.notes }
+        ensures { slice_get self.now.notes body ≡ Some result.now }
+    {
+        &self.notes.as_slice()[body as usize]
+    }
+
+    /// The module, and the notes of all bodies.
+    pub fn into_parts(self) -> (Module, List<List<Note>>)
+        ensures value { result ≡ (self.source, self.notes) }
+        ensures typed { IsTyped result.0 result.1 }
+    {
+        let Checked { source, notes } = self;
+        (source, notes)
+    }
+}

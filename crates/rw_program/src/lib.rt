@@ -1,0 +1,9 @@
+//! Checked modules and linked programs: values that only a check and a link make.
+#![tactic(auto)]
+
+mod checked;
+mod linked;
+
+pub use checked::{CheckError, Checked};
+pub use linked::{Linked, LinkedFunc, LinkedGlobal};
+pub use rich_meaning::{Note, Place, Rule};
