@@ -1,5 +1,7 @@
 -- What stands after the last slash, one slash at a time.
-use Rattle.std.proofs.Common.{◌≡◌, ℕ, zero, suc, ◌+◌, ◌<◌, Bool, true, false, not, ◌||◌, List, [], ◌∷◌, length, drop, cond, refl, ap, sym, ◌∙◌, arith, ◌==◌}
+use Rattle.std.proofs.Common.{◌≡◌, ℕ, zero, suc, ◌+◌, ◌<◌, Bool, true, false, not, ◌||◌, List, [], ◌∷◌, length, drop, cond, refl, ap, sym, ◌∙◌, arith, ◌==◌, ◌≤◌, nat_lt, Some, None, position}
+use Rattle.std.specs.declared.option.Option.{Option}
+use Rattle.std.proofs.lemmas.Bool.Decides.{nat_tests}
 use Rattle.std.specs.List.{list_any, after_first, position_or_len}
 use Rattle.rwc.specs.Words.{after_last_slash}
 
@@ -55,3 +57,27 @@ step false b bs h f =
 pub last_after_first : (s : List ℕ) → position_or_len is_slash s < length s → after_last_slash s ≡ after_last_slash (after_first is_slash s)
 last_after_first [] h = absurd (omega arith)
 last_after_first (b ∷ bs) h = step (b == 47) b bs (omega arith) (last_after_first bs)
+
+at_most : (s : List ℕ) → position_or_len is_slash s ≤ length s
+at_most [] = omega arith
+at_most (b ∷ bs) = at_most_step (b == 47) (position_or_len is_slash bs) (length bs) (at_most bs)
+  where
+    at_most_step : (t : Bool) (n m : ℕ) → n ≤ m → cond (not t) (1 + n) 0 ≤ suc m
+    at_most_step true n m h = omega arith
+    at_most_step false n m h = omega arith
+
+found_step : (n m : ℕ) (b : Bool) (at : ℕ) → nat_lt n m ≡ b → cond b (Some n) None ≡ Some at → (n < m) × (n ≡ at)
+found_step n m true at e h = (grind (arith, nat_tests), cc)
+found_step n m false at e h = absurd cc
+
+-- what is found is the first slash
+pub found : (s : List ℕ) (at : ℕ) → Some at ≡ position is_slash s → (position_or_len is_slash s < length s) × (position_or_len is_slash s ≡ at)
+found s at h = found_step (position_or_len is_slash s) (length s) (nat_lt (position_or_len is_slash s) (length s)) at refl (sym h)
+
+missed_step : (n m : ℕ) (b : Bool) → nat_lt n m ≡ b → cond b (Some n) None ≡ None → m ≤ n
+missed_step n m true e h = absurd cc
+missed_step n m false e h = grind (arith, nat_tests)
+
+-- where none is found there is none
+pub missed : (s : List ℕ) → None ≡ position is_slash s → position_or_len is_slash s ≡ length s
+missed s h = omega (arith, at_most s, missed_step (position_or_len is_slash s) (length s) (nat_lt (position_or_len is_slash s) (length s)) refl (sym h))

@@ -1,5 +1,5 @@
 // The names of files: which are plain words, and which are those of sources.
-ghost use Rattle.std.specs.Prelude.{◌≡◌};
+ghost use Rattle.std.specs.Prelude.{◌≡◌, ◌==◌, ◌<◌, ◌+◌, ◌^◌, length, position, IfSome};
 ghost use Rattle.std.specs.List.{list_all};
 ghost use Rattle.std.specs.Option.{option_copied};
 ghost use Rattle.rwc.specs.Words.{is_plain_name, is_source_file, is_module_name, after_last_slash, module_name_of};
@@ -47,8 +47,18 @@ fn last_part(file: &[u8]) -> &[u8]
     ensures { result.now ≡ after_last_slash file.now }
 {
     let mut part = file;
-    while let Some(at) = part.iter().position(|b| *b == b'/') {
-        part = &part[at + 1..];
+    loop {
+        match first_slash(part) {
+            Some(at) => part = &part[at + 1..],
+            None => return part,
+        }
     }
-    part
+}
+
+fn first_slash(part: &[u8]) -> Option<usize>
+    ensures place { result ≡ position (λ b. b == 47) part.now }
+    ensures within { IfSome result (λ at. at < length part.now) }
+    ensures small { IfSome result (λ at. at + 1 < 2 ^ 64) }
+{
+    part.iter().position(|b| *b == b'/')
 }
