@@ -2,12 +2,12 @@
 -- words, and two scratch words. This project's own.
 use Rattle.std.specs.Prelude.{ℕ, ◌+◌, max, sum, List, [], ◌∷◌}
 use Rattle.rw_types.specs.declared.types.Ty.{Ty}
-use Rattle.rich_meaning.specs.Sizes.{sizes}
-use Rattle.rw_program.specs.declared.note.Note.{Note}
+use Rattle.rich_meaning.specs.Kinds.{words_of}
+use Rattle.rich_meaning.specs.declared.notes.Note.{Note}
 
 -- how many words stand in the frame's operands before an instruction
 abbrev pub height_of : Note → ℕ
-height_of note = note.beneath + sizes note.binders note.taken
+height_of note = note.beneath + words_of note.binders note.taken
 
 -- the greatest of the heights before the instructions, and of the height at the end
 abbrev pub room_of : List Note → ℕ → ℕ

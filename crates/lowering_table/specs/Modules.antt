@@ -1,6 +1,6 @@
 -- The lowered module of a linked program. This project's own, in the terms of the WebAssembly Core Specification 1.0,
 -- section 2.5.
-use Rattle.std.specs.Prelude.{ℕ, zero, suc, ◌+◌, ◌-◌, ◌*◌, max, map, replicate, codes, List, [], ◌∷◌, ◌++◌, length, true, Some, None}
+use Rattle.std.specs.Prelude.{ℕ, zero, suc, ◌+◌, ◌-◌, ◌*◌, ◌≤◌, max, map, replicate, codes, List, [], ◌∷◌, ◌++◌, length, true, Some, None}
 use Rattle.std.specs.Int.{to_le_bytes, w64}
 use Rattle.wasm_ast.specs.declared.types.ValTy.TheVariants.{I32, I64}
 use Rattle.wasm_ast.specs.declared.types.FuncType.{FuncType}
@@ -12,29 +12,31 @@ use Rattle.wasm_ast.specs.declared.modules.Export.{Export}
 use Rattle.wasm_ast.specs.declared.modules.WGlobal.{WGlobal}
 use Rattle.wasm_ast.specs.declared.modules.LocalRun.{LocalRun}
 use Rattle.wasm_ast.specs.declared.modules.WModule.{WModule}
-use Rattle.rich_meaning.specs.Sizes.{size, sizes}
+use Rattle.rich_meaning.specs.Kinds.{size, words_of}
 use Rattle.rw_program.specs.declared.linked.LinkedFunc.{LinkedFunc}
 use Rattle.rw_program.specs.declared.linked.LinkedGlobal.{LinkedGlobal}
 use Rattle.rw_program.specs.Programs.{Program}
+use Rattle.lowering_table.specs.declared.Pages.{Pages}
 use Rattle.lowering_table.specs.Frames.{Frame, room_of, first_operand, declared_locals}
 use Rattle.lowering_table.specs.Rows.{rows, gives}
 use Rattle.lowering_table.specs.TypeUses.{first_uses, type_index}
 use Rattle.lowering_table.specs.Allocators.{Allocators, allocators}
 
--- pages of 65,536 bytes: those of the linear part, and those of the unrestricted region
-pub record PageCounts : Type 0 where
-  pub lin : ℕ
-  pub unr : ℕ
+-- 1 to 512 pages of the linear part, and 0 to 512 of the unrestricted region
+pub record ArePages (pages : Pages) : Type 0 where
+  pub some : 1 ≤ pages.lin
+  pub linear : pages.lin ≤ 512
+  pub unrestricted : pages.unr ≤ 512
 
 -- the pages of the memory at the start, and at most
-abbrev pub first_pages : PageCounts → ℕ
+abbrev pub first_pages : Pages → ℕ
 first_pages pages = pages.lin + pages.unr
 
-abbrev pub most_pages : PageCounts → ℕ
+abbrev pub most_pages : Pages → ℕ
 most_pages pages = pages.lin + pages.unr
 
 -- the address at which the unrestricted region begins
-abbrev pub region_start : PageCounts → ℕ
+abbrev pub region_start : Pages → ℕ
 region_start pages = 65536 * pages.lin
 
 -- Wasm functions before the linked ones: the print, and the three of the allocators
@@ -48,9 +50,9 @@ globals_before = 2
 -- the words of a function's frame
 abbrev pub frame_of : LinkedFunc → Frame
 frame_of f = record {
-  params = sizes f.ty.binders f.ty.params;
+  params = words_of f.ty.binders f.ty.params;
   slots = total f.locals;
-  operands = room_of f.notes (sizes f.ty.binders f.ty.results);
+  operands = room_of f.notes (words_of f.ty.binders f.ty.results);
 }
   where
     total : List ℕ → ℕ
@@ -66,12 +68,12 @@ abbrev pub low_function : LinkedFunc → Code
 low_function f =
     let frame = frame_of f in
     code_of (declared_locals frame)
-        (rows (first_operand frame) f.body f.notes ++ gives (sizes f.ty.binders f.ty.results) (first_operand frame) globals_before)
+        (rows (first_operand frame) f.body f.notes ++ gives (words_of f.ty.binders f.ty.results) (first_operand frame) globals_before)
 
 -- the greatest number of result words of a function
 abbrev pub result_words : List LinkedFunc → ℕ
 result_words [] = 0
-result_words (f ∷ fs) = max (sizes f.ty.binders f.ty.results) (result_words fs)
+result_words (f ∷ fs) = max (words_of f.ty.binders f.ty.results) (result_words fs)
 
 -- the words of all globals together
 abbrev pub global_words : List LinkedGlobal → ℕ
@@ -106,7 +108,7 @@ start_type = record { params = []; result = Some I64 }
 
 -- the parameter words; results go through globals
 abbrev pub low_type : LinkedFunc → FuncType
-low_type f = record { params = replicate (sizes f.ty.binders f.ty.params) I64; result = None }
+low_type f = record { params = replicate (words_of f.ty.binders f.ty.params) I64; result = None }
 
 -- the types of all functions, by first use
 abbrev pub low_types : Program → List FuncType
@@ -117,7 +119,7 @@ abbrev pub word_global : ℕ → WGlobal
 word_global n = record { ty = I64; mutable = true; init = w.I64Const n }
 
 -- the trap code, the next address of the region, the result globals and the words of the program's globals
-abbrev pub low_globals : Program → PageCounts → List WGlobal
+abbrev pub low_globals : Program → Pages → List WGlobal
 low_globals p pages =
     record { ty = I32; mutable = true; init = w.I32Const 0 }
     ∷ word_global (region_start pages)
@@ -141,16 +143,16 @@ counted zero from = []
 counted (suc n) from = from ∷ counted n (suc from)
 
 -- the free list at the start: the head at byte 8 names the block at 24, whose header at byte 16 has its words
-abbrev pub free_list_bytes : PageCounts → List ℕ
+abbrev pub free_list_bytes : Pages → List ℕ
 free_list_bytes pages = to_le_bytes w64 24 ++ to_le_bytes w64 (8192 * pages.lin - 3)
 
 -- the lowered module, with these codes of the allocators
-abbrev pub low_module_with : Allocators → Program → PageCounts → WModule
+abbrev pub low_module_with : Allocators → Program → Pages → WModule
 low_module_with codes_of p pages =
     let types = low_types p in
     record {
       types = types;
-      imports = record { module = codes "rw"; name = codes "print"; what = import_kind.Func 0 } ∷ [];
+      imports = record { «module» = codes "rw"; name = codes "print"; what = import_kind.Func 0 } ∷ [];
       funcs = type_index alloc_type types ∷ type_index print_type types ∷ type_index alloc_type types
           ∷ (map (λ f. type_index (low_type f) types) p.funcs ++ type_index start_type types ∷ []);
       tables = record { min = length p.funcs; max = Some (length p.funcs) } ∷ [];
@@ -164,5 +166,5 @@ low_module_with codes_of p pages =
     }
 
 -- the lowered module
-abbrev pub low_module : Program → PageCounts → WModule
+abbrev pub low_module : Program → Pages → WModule
 low_module p pages = low_module_with allocators p pages

@@ -12,9 +12,9 @@ is_same_value I64 I32 = false
 
 abbrev pub are_same_values : List ValTy → List ValTy → Bool
 are_same_values [] [] = true
-are_same_values (a ∷ as) (b ∷ bs) = is_same_value a b && are_same_values as bs
-are_same_values [] (b ∷ bs) = false
-are_same_values (a ∷ as) [] = false
+are_same_values (t ∷ ts) (u ∷ us) = is_same_value t u && are_same_values ts us
+are_same_values [] (u ∷ us) = false
+are_same_values (t ∷ ts) [] = false
 
 abbrev pub is_same_result : Option ValTy → Option ValTy → Bool
 is_same_result None None = true

@@ -1,0 +1,41 @@
+-- The lowered module of a program of one function, part by part.
+use Rattle.std.proofs.Common.{◌≡◌, List, [], ◌∷◌, refl, ap, sym, ◌∙◌, length, get_or, arith}
+use Rattle.wasm_ast.specs.declared.modules.WModule.{WModule}
+use Rattle.rw_types.specs.declared.instrs.Instr.{Instr}
+use Rattle.rich_meaning.specs.declared.notes.Note.{Note}
+use Rattle.rw_program.specs.declared.linked.LinkedFunc.{LinkedFunc}
+use Rattle.rw_program.specs.LonePrograms.{IsLoneProgram, lone_func, lone_program}
+use Rattle.rw_program.specs.Programs.{Program}
+use Rattle.lowering_table.specs.declared.Pages.{Pages}
+use Rattle.lowering_table.specs.Modules.{low_module}
+use Rattle.lower.specs.Lone.{IsLoneFunc, lone_module}
+use Rattle.lower.proofs.Derived.{derived_within}
+
+-- the function of such a program
+func_of : (p : Program) (fs : List LinkedFunc) (f : LinkedFunc) (h : IsLoneProgram p) → fs ≡ p.funcs → f ≡ get_or fs 0 f → f ≡ lone_func h.body h.notes
+func_of p fs f h all at = at ∙ ap (λ (gs : List LinkedFunc). get_or gs 0 f) (all ∙ ap (λ (q : Program). q.funcs) h.is)
+
+pub lone_of : (p : Program) (fs : List LinkedFunc) (f : LinkedFunc) (h : IsLoneProgram p) → fs ≡ p.funcs → f ≡ get_or fs 0 f → IsLoneFunc f
+lone_of p fs f h all at = record {
+  body = h.body;
+  notes = h.notes;
+  is = func_of p fs f h all at;
+  plain = h.plain;
+  within = derived_within 1000 h.body [] h.notes _ h.derived tt h.plain (omega (arith, h.short));
+}
+
+-- its lowered module
+pub low_module_of : (p : Program) (fs : List LinkedFunc) (f : LinkedFunc) (pages : Pages) (h : IsLoneProgram p) → fs ≡ p.funcs → f ≡ get_or fs 0 f → low_module p pages ≡ lone_module f pages
+low_module_of p fs f pages h all at =
+    ap (λ (q : Program). low_module q pages) h.is
+    ∙ (let l : low_module (lone_program h.body h.notes) pages ≡ lone_module (lone_func h.body h.notes) pages = refl in l)
+    ∙ ap (λ (g : LinkedFunc). lone_module g pages) (sym (func_of p fs f h all at))
+
+-- modules with equal parts are equal
+pub same_module : (a b : WModule) → a.types ≡ b.types → a.imports ≡ b.imports → a.funcs ≡ b.funcs → a.tables ≡ b.tables → a.memories ≡ b.memories → a.globals ≡ b.globals →
+    a.exports ≡ b.exports → a.start ≡ b.start → a.elements ≡ b.elements → a.codes ≡ b.codes → a.segments ≡ b.segments → a ≡ b
+same_module a b types imports funcs tables memories globals exports start elements codes segments =
+    λ i. record {
+      types = types i; imports = imports i; funcs = funcs i; tables = tables i; memories = memories i; globals = globals i;
+      exports = exports i; start = start i; elements = elements i; codes = codes i; segments = segments i;
+    }

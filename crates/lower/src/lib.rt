@@ -1,0 +1,11 @@
+//! The lowering of a linked program to a WebAssembly module.
+#![tactic(auto)]
+
+mod error;
+mod functions;
+mod low;
+mod parts;
+
+pub use error::LowerError;
+pub use low::lower;
+pub use lowering_table::Pages;

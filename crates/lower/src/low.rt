@@ -1,0 +1,79 @@
+// The lowered module of a linked program.
+ghost use Rattle.std.specs.Prelude.{◌≡◌, [], ◌∷◌, ◌++◌, IfOk};
+ghost use Rattle.rw_program.specs.LonePrograms.{IsLoneProgram, lone_func, lone_program};
+ghost use Rattle.lowering_table.specs.Allocators.{unreachable_code};
+ghost use Rattle.lowering_table.specs.Modules.{ArePages, low_function, low_module, main_code};
+ghost use Rattle.lower.specs.Lone.{IsLoneFunc, lone_codes};
+
+use crate::{LowerError, functions, parts};
+use lowering_table::Pages;
+use rw_program::{Linked, LinkedFunc};
+use std::alloc::Global;
+use wasm_ast::{Code, Limits, List, WInstr, WModule};
+
+/// The WebAssembly module that a linked program is lowered to, with this memory: the module of the lowering table
+/// (this project's own). Want of memory is its one answer beside it.
+pub fn lower(alloc: Global, p: &Linked, pages: &Pages) -> Result<WModule, LowerError>
+    requires { ArePages pages.now }
+    ensures { IfOk result (λ lowered. lowered ≡ low_module p.now pages.now) }
+{
+    let [func] = p.funcs().as_slice() else {
+        unreachable!()
+    };
+    Ok(WModule {
+        types: parts::types(alloc)?,
+        imports: parts::imports(alloc)?,
+        funcs: List::from_slice(alloc, &[1, 0, 1, 2, 3])?,
+        tables: List::from_slice(
+            alloc,
+            &[Limits {
+                min: 1,
+                max: Some(1),
+            }],
+        )?,
+        memories: parts::memories(alloc, pages)?,
+        globals: parts::globals(alloc, pages)?,
+        exports: parts::exports(alloc)?,
+        start: None,
+        elements: parts::elements(alloc)?,
+        codes: codes(alloc, func)?,
+        segments: parts::segments(alloc, pages)?,
+    })
+}
+
+// The codes: those of the allocators, of the linked function, and of the exported main.
+fn codes(alloc: Global, func: &LinkedFunc) -> Result<List<Code>, LowerError>
+    requires { IsLoneFunc func.now }
+    ensures { IfOk result (λ codes. codes ≡ lone_codes func.now) }
+{
+    let mut codes = List::new(alloc);
+    codes.push(functions::unreachable(alloc)?)?;
+    codes.push(functions::unreachable(alloc)?)?;
+    codes.push(functions::unreachable(alloc)?)?;
+    codes.push(function(alloc, func)?)?;
+    codes.push(main(alloc)?)?;
+    Ok(codes)
+}
+
+// The code of the linked function: its list, and its result word goes to the result global.
+fn function(alloc: Global, func: &LinkedFunc) -> Result<Code, LowerError>
+    requires { IsLoneFunc func.now }
+    ensures { IfOk result (λ code. code ≡ low_function func.now) }
+{
+    let notes = func.notes.as_slice();
+    let mut body = List::new(alloc);
+    functions::push_rows(&mut body, 0, func.body.as_slice(), notes)?;
+    body.push(WInstr::LocalGet(0))?;
+    body.push(WInstr::GlobalSet(2))?;
+    functions::code(alloc, functions::room(notes, 1) as u32 + 2, body)
+}
+
+// The code of the exported main: it calls the linked function, and gets its result.
+fn main(alloc: Global) -> Result<Code, LowerError>
+    ensures { IfOk result (λ code. code ≡ main_code (lone_program [] [])) }
+{
+    let mut body = List::new(alloc);
+    body.push(WInstr::Call(4))?;
+    body.push(WInstr::GlobalGet(2))?;
+    functions::code(alloc, 2, body)
+}
