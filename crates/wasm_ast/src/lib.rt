@@ -1,0 +1,20 @@
+//! Trees of WebAssembly 1.0 modules, integer profile, and the opcode and immediates of each instruction.
+#![tactic(auto)]
+
+mod immediate;
+mod instructions;
+mod list;
+mod modules;
+mod opcode;
+mod types;
+
+pub use immediate::ImmediateRef;
+pub use instructions::WInstr;
+pub use list::List;
+pub use modules::{
+    Code, DataSeg, ElemSeg, Export, ExportKind, Import, ImportKind, LocalRun, WGlobal, WModule,
+};
+pub use types::{FuncType, Limits, ValTy};
+
+#[cfg(test)]
+mod tests;
