@@ -1,6 +1,6 @@
 -- The immediates of each instruction: what stands in its bytes after the opcode
 -- (WebAssembly Core Specification 1.0, section 5.4), in the order of the opcodes.
-use Rattle.std.specs.Prelude.{ℕ, List, Option}
+use Rattle.std.specs.Prelude.{ℕ, List, Option, map}
 use Rattle.wasm_ast.specs.declared.types.ValTy.{ValTy}
 use Rattle.wasm_ast.specs.declared.instructions.WInstr.{WInstr, out-WInstr}
 use Rattle.wasm_ast.specs.declared.instructions.WInstr.TheOpen.{WInstr-F}
@@ -129,3 +129,16 @@ immediate_in WInstr-F.I64ExtendI32U = Bare
 -- what follows the opcode of an instruction
 abbrev pub immediate_of : WInstr → Immediate WInstr
 immediate_of w = immediate_in (out-WInstr w)
+
+-- the same immediates, with `f` of each nested instruction
+abbrev pub map_nested : {A B : Type 0} → (A → B) → Immediate A → Immediate B
+map_nested f Bare = Bare
+map_nested f (Index n) = Index n
+map_nested f (Labels labels default) = Labels labels default
+map_nested f (IndexZero n) = IndexZero n
+map_nested f Zero = Zero
+map_nested f (MemArg align offset) = MemArg align offset
+map_nested f (Const32 n) = Const32 n
+map_nested f (Const64 n) = Const64 n
+map_nested f (Body t xs) = Body t (map f xs)
+map_nested f (Bodies t xs ys) = Bodies t (map f xs) (map f ys)

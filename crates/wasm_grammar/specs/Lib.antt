@@ -1,0 +1,5 @@
+pub mod Tags
+pub mod CanonicalTypes
+pub mod CanonicalInstructions
+pub mod CanonicalModules
+pub mod Nesting
