@@ -1,6 +1,6 @@
 -- The immediates of each instruction: what stands in its bytes after the opcode
 -- (WebAssembly Core Specification 1.0, section 5.4), in the order of the opcodes.
-use Rattle.std.specs.Prelude.{ℕ, List, Option, map}
+use Rattle.std.specs.Prelude.{ℕ, ◌^◌, ◌<◌, List, length, Option, map}
 use Rattle.wasm_ast.specs.declared.types.ValTy.{ValTy}
 use Rattle.wasm_ast.specs.declared.instructions.WInstr.{WInstr, out-WInstr}
 use Rattle.wasm_ast.specs.declared.instructions.WInstr.TheOpen.{WInstr-F}
@@ -142,3 +142,16 @@ map_nested f (Const32 n) = Const32 n
 map_nested f (Const64 n) = Const64 n
 map_nested f (Body t xs) = Body t (map f xs)
 map_nested f (Bodies t xs ys) = Bodies t (map f xs) (map f ys)
+
+-- immediates that nest no instruction
+abbrev pub IsPlain : {A : Type 0} → Immediate A → Type 0
+IsPlain (Body t xs) = ⊥
+IsPlain (Bodies t xs ys) = ⊥
+IsPlain _ = Unit {0}
+
+-- each list in the immediates has fewer than 2 ^ 32 entries
+abbrev pub HasShortLists : {A : Type 0} → Immediate A → Type 0
+HasShortLists (Labels labels default) = length labels < 2 ^ 32
+HasShortLists (Body t xs) = length xs < 2 ^ 32
+HasShortLists (Bodies t xs ys) = (length xs < 2 ^ 32) × (length ys < 2 ^ 32)
+HasShortLists _ = Unit {0}

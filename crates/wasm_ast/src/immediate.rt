@@ -1,5 +1,5 @@
 ghost use Rattle.std.specs.Prelude.{◌≡◌};
-ghost use Rattle.wasm_ast.specs.Immediates.{immediate_of};
+ghost use Rattle.wasm_ast.specs.Immediates.{HasShortLists, immediate_of};
 ghost use Rattle.wasm_ast.specs.ImmediateViews.{immediate_seen};
 
 use crate::instructions::WInstr;
@@ -34,7 +34,8 @@ pub enum ImmediateRef<'a> {
 impl WInstr {
     /// What follows the opcode.
     pub fn immediate(&self) -> ImmediateRef<'_>
-        ensures { immediate_seen result ≡ immediate_of self.now }
+        ensures immediate { immediate_seen result ≡ immediate_of self.now }
+        ensures short { HasShortLists (immediate_seen result) }
     {
         match self {
             WInstr::Block(t, xs) | WInstr::Loop(t, xs) | WInstr::If(t, xs) => ImmediateRef::Body(

@@ -3,6 +3,7 @@
 
 mod immediate;
 mod instructions;
+mod laws;
 mod list;
 mod modules;
 mod opcode;
@@ -10,6 +11,7 @@ mod types;
 
 pub use immediate::ImmediateRef;
 pub use instructions::WInstr;
+pub use laws::opcodes_tell_apart;
 pub use list::List;
 pub use modules::{
     Code, DataSeg, ElemSeg, Export, ExportKind, Import, ImportKind, LocalRun, WGlobal, WModule,

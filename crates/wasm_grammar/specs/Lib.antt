@@ -3,3 +3,5 @@ pub mod CanonicalTypes
 pub mod CanonicalInstructions
 pub mod CanonicalModules
 pub mod Nesting
+pub mod Layers
+pub mod WorkedModules

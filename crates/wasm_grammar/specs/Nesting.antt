@@ -1,10 +1,6 @@
 -- How deep blocks nest, which bounds the host's stack while a body is read or written (this project's own).
 use Rattle.std.specs.Prelude.{ℕ, ◌+◌, ◌≤◌, max, List, [], ◌∷◌, All}
 use Rattle.wasm_ast.specs.declared.instructions.WInstr.{WInstr}
-use Rattle.wasm_ast.specs.declared.modules.Code.{Code}
-use Rattle.wasm_ast.specs.declared.modules.WGlobal.{WGlobal}
-use Rattle.wasm_ast.specs.declared.modules.ElemSeg.{ElemSeg}
-use Rattle.wasm_ast.specs.declared.modules.DataSeg.{DataSeg}
 use Rattle.wasm_ast.specs.declared.modules.WModule.{WModule}
 use Rattle.wasm_ast.specs.Immediates.{Immediate, Body, Bodies}
 use Rattle.wasm_ast.specs.Folds.{fold_by}
@@ -28,7 +24,11 @@ nesting = fold_by (λ _ immediate. immediate_nesting (λ depth. depth) immediate
 abbrev pub NestsAtMost : ℕ → List WInstr → Type 0
 NestsAtMost most xs = greatest nesting xs ≤ most
 
--- the same of each body and constant expression of a module
+-- the most blocks, loops and ifs that this project's profile has open at once in a body
+abbrev pub nesting_limit : ℕ
+nesting_limit = 1000
+
+-- each body and constant expression of a module nests at most so deep
 pub record ModuleNestsAtMost (most : ℕ) (m : WModule) : Type 0 where
   pub codes : All (λ c. NestsAtMost most c.body) m.codes
   pub globals : All (λ g. nesting g.init ≤ most) m.globals

@@ -1,0 +1,2 @@
+pub mod InstructionLayers
+pub mod WorkedRows
