@@ -1,10 +1,10 @@
-ghost use Rattle.std.specs.Prelude.{◌≡◌, ◌++◌, OnOk};
+ghost use Rattle.std.specs.Prelude.{◌≡◌, ◌++◌, ◌<◌, ◌^◌, OnOk, length};
 ghost use Rattle.wasm_grammar.specs.Tags.{value_type, block_type, mutability, export_kind};
 ghost use Rattle.wasm_grammar.specs.CanonicalTypes.{vector_bytes, result_bytes, limits_bytes, table_type_bytes};
 ghost use Rattle.wasm_grammar.specs.CanonicalModules.{import_kind_bytes};
 
 use crate::instructions::push_constant;
-use crate::vector::{Entry, push_bytes, push_count, push_vector};
+use crate::vector::{Entry, push_bytes, push_vector};
 use std::alloc::AllocError;
 use wasm_ast::{
     DataSeg, ElemSeg, Export, ExportKind, FuncType, Import, ImportKind, Limits, LocalRun, ValTy,
@@ -134,9 +134,10 @@ fn push_table_type(out: &mut Vec<u8>, limits: Limits) -> Result<(), AllocError>
 
 /// Appends the vector of a module's table types.
 pub fn push_table_types(out: &mut Vec<u8>, tables: &[Limits]) -> Result<(), AllocError>
+    requires { length tables.now < 2 ^ 32 }
     ensures { OnOk result (out.new.items ≡ out.old.items ++ vector_bytes table_type_bytes tables.now) }
 {
-    push_count(out, tables.len())?;
+    push_u32(out, tables.len() as u32)?;
     for table in tables {
         push_table_type(out, *table)?;
     }

@@ -1,5 +1,6 @@
-ghost use Rattle.std.specs.Prelude.{◌≡◌, ◌++◌, ◌∷◌, [], OnOk};
+ghost use Rattle.std.specs.Prelude.{◌≡◌, ◌++◌, ◌∷◌, [], ◌<◌, ◌^◌, OnOk, length};
 ghost use Rattle.std.specs.List.{flat_map};
+ghost use Rattle.wasm_ast.specs.Immediates.{HasShortLists};
 ghost use Rattle.wasm_ast.specs.ImmediateViews.{immediate_seen};
 ghost use Rattle.wasm_leb.specs.Leb.{unsigned_least};
 ghost use Rattle.wasm_grammar.specs.CanonicalTypes.{vector_bytes};
@@ -27,6 +28,7 @@ pub fn push_instruction(out: &mut Vec<u8>, instruction: &WInstr) -> Result<(), A
 /// Appends what follows an opcode.
 #[cycle(instructions)]
 fn push_immediate(out: &mut Vec<u8>, immediate: ImmediateRef) -> Result<(), AllocError>
+    requires { HasShortLists (immediate_seen immediate) }
     ensures { OnOk result (out.new.items ≡ out.old.items ++ immediate_bytes instruction_bytes (immediate_seen immediate.entry)) }
 {
     match immediate {
@@ -58,6 +60,7 @@ fn push_immediate(out: &mut Vec<u8>, immediate: ImmediateRef) -> Result<(), Allo
 
 /// Appends the labels of a table of branches, and the default one.
 fn push_labels(out: &mut Vec<u8>, labels: &[u32], default: u32) -> Result<(), AllocError>
+    requires { length labels.now < 2 ^ 32 }
     ensures { OnOk result (out.new.items ≡ out.old.items ++ (vector_bytes (unsigned_least 5) labels.now ++ unsigned_least 5 default)) }
 {
     push_vector(out, labels)?;

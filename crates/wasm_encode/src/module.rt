@@ -1,7 +1,7 @@
 ghost use Rattle.std.specs.Prelude.{◌≡◌, ◌++◌, ℕ, ◌≤◌, ◌<◌, ◌^◌, IfOk, OnOk, IsErrOf, length};
 ghost use Rattle.wasm_grammar.specs.CanonicalTypes.{vector_bytes, table_type_bytes};
 ghost use Rattle.wasm_grammar.specs.CanonicalModules.{section_of, start_section, start_bytes, code_bytes, module_bytes};
-ghost use Rattle.wasm_grammar.specs.Nesting.{ModuleNestsAtMost};
+ghost use Rattle.wasm_grammar.specs.Nesting.{ModuleNestsAtMost, nesting_limit};
 ghost use Rattle.wasm_encode.specs.Contents.{EachContentFits, IsFirstTooLong};
 
 use crate::entries::push_table_types;
@@ -20,7 +20,7 @@ const PREAMBLE: [u8; 8] = *b"\0asm\x01\0\0\0";
 /// that blocks nest at most 1,000 deep, since it calls itself for each open block. `TooLong(id)` comes
 /// exactly where the content of section `id` has 2^32 bytes or more, and that of no section before it.
 pub fn encode(alloc: Global, m: &WModule) -> Result<Vec<u8>, EncodeError>
-    requires { ModuleNestsAtMost 1000 m.now }
+    requires { ModuleNestsAtMost nesting_limit m.now }
     ensures bytes { IfOk result (λ bytes. bytes.items ≡ module_bytes m.now) }
     ensures fits { OnOk result (EachContentFits m.now) }
     ensures long { (id : ℕ) → IsErrOf result (EncodeError.TooLong id) → IsFirstTooLong m.now id }
@@ -48,6 +48,7 @@ fn push_section<T: Entry>(
     id: u8,
     entries: &[T],
 ) -> Result<(), EncodeError>
+    requires { length entries.now < 2 ^ 32 }
     ensures ok { OnOk result (out.new.items ≡ out.old.items ++ section_of id entries.now (vector_bytes T.bytes entries.now)) }
     ensures short { OnOk result (length (vector_bytes T.bytes entries.now) < 2 ^ 32) }
     ensures cause { (j : ℕ) → IsErrOf result (EncodeError.TooLong j) → (j ≡ id) × (2 ^ 32 ≤ length (vector_bytes T.bytes entries.now)) }
@@ -72,6 +73,7 @@ fn push_table_section(
     out: &mut Vec<u8>,
     tables: &[Limits],
 ) -> Result<(), EncodeError>
+    requires { length tables.now < 2 ^ 32 }
     ensures ok { OnOk result (out.new.items ≡ out.old.items ++ section_of 4 tables.now (vector_bytes table_type_bytes tables.now)) }
     ensures short { OnOk result (length (vector_bytes table_type_bytes tables.now) < 2 ^ 32) }
     ensures cause { (j : ℕ) → IsErrOf result (EncodeError.TooLong j) → (j ≡ 4) × (2 ^ 32 ≤ length (vector_bytes table_type_bytes tables.now)) }
@@ -116,6 +118,7 @@ fn push_start_section(
 /// Appends the code section, or nothing where there is no code.
 #[tactic(auto, unfolding(wasm_grammar::specs::CanonicalModules::section_of))]
 fn push_code_section(alloc: Global, out: &mut Vec<u8>, codes: &[Code]) -> Result<(), EncodeError>
+    requires { length codes.now < 2 ^ 32 }
     ensures ok { OnOk result (out.new.items ≡ out.old.items ++ section_of 10 codes.now (vector_bytes code_bytes codes.now)) }
     ensures short { OnOk result (length (vector_bytes code_bytes codes.now) < 2 ^ 32) }
     ensures cause { (j : ℕ) → IsErrOf result (EncodeError.TooLong j) → (j ≡ 10) × (2 ^ 32 ≤ length (vector_bytes code_bytes codes.now)) }
