@@ -10,7 +10,7 @@ use crate::functions::{CODE, push_codes};
 use crate::section::open_section;
 use crate::vector::{Entry, push_vector};
 use std::alloc::Global;
-use wasm_ast::{Code, Limits, WModule};
+use wasm_ast::{Code, Limits, List, WModule};
 use wasm_leb::push_u32;
 
 /// The magic number and the version.
@@ -26,17 +26,17 @@ pub fn encode(alloc: Global, m: &WModule) -> Result<Vec<u8>, EncodeError>
     ensures long { (id : ℕ) → IsErrOf result (EncodeError.TooLong id) → IsFirstTooLong m.now id }
 {
     let mut out = Vec::from_slice(alloc, &PREAMBLE)?;
-    push_section(alloc, &mut out, 1, m.types.as_slice())?;
-    push_section(alloc, &mut out, 2, m.imports.as_slice())?;
-    push_section(alloc, &mut out, 3, m.funcs.as_slice())?;
-    push_table_section(alloc, &mut out, m.tables.as_slice())?;
-    push_section(alloc, &mut out, 5, m.memories.as_slice())?;
-    push_section(alloc, &mut out, 6, m.globals.as_slice())?;
-    push_section(alloc, &mut out, 7, m.exports.as_slice())?;
+    push_section(alloc, &mut out, 1, &m.types)?;
+    push_section(alloc, &mut out, 2, &m.imports)?;
+    push_section(alloc, &mut out, 3, &m.funcs)?;
+    push_table_section(alloc, &mut out, &m.tables)?;
+    push_section(alloc, &mut out, 5, &m.memories)?;
+    push_section(alloc, &mut out, 6, &m.globals)?;
+    push_section(alloc, &mut out, 7, &m.exports)?;
     push_start_section(alloc, &mut out, m.start)?;
-    push_section(alloc, &mut out, 9, m.elements.as_slice())?;
-    push_code_section(alloc, &mut out, m.codes.as_slice())?;
-    push_section(alloc, &mut out, 11, m.segments.as_slice())?;
+    push_section(alloc, &mut out, 9, &m.elements)?;
+    push_code_section(alloc, &mut out, &m.codes)?;
+    push_section(alloc, &mut out, 11, &m.segments)?;
     Ok(out)
 }
 
@@ -46,9 +46,8 @@ fn push_section<T: Entry>(
     alloc: Global,
     out: &mut Vec<u8>,
     id: u8,
-    entries: &[T],
+    entries: &List<T>,
 ) -> Result<(), EncodeError>
-    requires { length entries.now < 2 ^ 32 }
     ensures ok { OnOk result (out.new.items ≡ out.old.items ++ section_of id entries.now (vector_bytes T.bytes entries.now)) }
     ensures short { OnOk result (length (vector_bytes T.bytes entries.now) < 2 ^ 32) }
     ensures cause { (j : ℕ) → IsErrOf result (EncodeError.TooLong j) → (j ≡ id) × (2 ^ 32 ≤ length (vector_bytes T.bytes entries.now)) }
@@ -57,7 +56,7 @@ fn push_section<T: Entry>(
         return Ok(());
     }
     let section = open_section(alloc, out, id)?;
-    match push_vector(out, entries) {
+    match push_vector(out, entries.as_slice()) {
         Ok(()) => section.close(out),
         Err(error) => {
             section.give_up();
@@ -71,9 +70,8 @@ fn push_section<T: Entry>(
 fn push_table_section(
     alloc: Global,
     out: &mut Vec<u8>,
-    tables: &[Limits],
+    tables: &List<Limits>,
 ) -> Result<(), EncodeError>
-    requires { length tables.now < 2 ^ 32 }
     ensures ok { OnOk result (out.new.items ≡ out.old.items ++ section_of 4 tables.now (vector_bytes table_type_bytes tables.now)) }
     ensures short { OnOk result (length (vector_bytes table_type_bytes tables.now) < 2 ^ 32) }
     ensures cause { (j : ℕ) → IsErrOf result (EncodeError.TooLong j) → (j ≡ 4) × (2 ^ 32 ≤ length (vector_bytes table_type_bytes tables.now)) }
@@ -82,7 +80,7 @@ fn push_table_section(
         return Ok(());
     }
     let section = open_section(alloc, out, 4)?;
-    match push_table_types(out, tables) {
+    match push_table_types(out, tables.as_slice()) {
         Ok(()) => section.close(out),
         Err(error) => {
             section.give_up();
@@ -117,8 +115,11 @@ fn push_start_section(
 
 /// Appends the code section, or nothing where there is no code.
 #[tactic(auto, unfolding(wasm_grammar::specs::CanonicalModules::section_of))]
-fn push_code_section(alloc: Global, out: &mut Vec<u8>, codes: &[Code]) -> Result<(), EncodeError>
-    requires { length codes.now < 2 ^ 32 }
+fn push_code_section(
+    alloc: Global,
+    out: &mut Vec<u8>,
+    codes: &List<Code>,
+) -> Result<(), EncodeError>
     ensures ok { OnOk result (out.new.items ≡ out.old.items ++ section_of 10 codes.now (vector_bytes code_bytes codes.now)) }
     ensures short { OnOk result (length (vector_bytes code_bytes codes.now) < 2 ^ 32) }
     ensures cause { (j : ℕ) → IsErrOf result (EncodeError.TooLong j) → (j ≡ 10) × (2 ^ 32 ≤ length (vector_bytes code_bytes codes.now)) }
@@ -127,7 +128,7 @@ fn push_code_section(alloc: Global, out: &mut Vec<u8>, codes: &[Code]) -> Result
         return Ok(());
     }
     let section = open_section(alloc, out, CODE)?;
-    match push_codes(out, codes) {
+    match push_codes(out, codes.as_slice()) {
         Ok(()) => section.close(out),
         Err(error) => {
             section.give_up();

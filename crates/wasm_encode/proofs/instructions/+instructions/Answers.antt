@@ -3,7 +3,7 @@ use Rattle.wasm_encode.proofs.Layers.{bytes_by, weight_by, weight}
 use Rattle.wasm_encode.proofs.instructions.+instructions.Goals as goal
 
 pub push_instruction-push_immediate-requires : goal.push_instruction-push_immediate-requires
-push_instruction-push_immediate-requires t c = 
+push_instruction-push_immediate-requires t c =
     let e = weight_by c.args.instruction.now _ c.immediate.ensures.immediate in
     (omega (arith, e), c.immediate.ensures.short)
 
