@@ -1,2 +1,3 @@
+pub mod FirstLong
 pub mod Layers
 pub mod Lengths
