@@ -1,9 +1,9 @@
 -- The tables give each instruction back from its opcode and immediates, so these tell instructions apart.
-use Rattle.std.proofs.Common.{◌≡◌, ◌∙◌, ℕ, ◌<◌, Option, Some, None, refl, sym, ap, arith, lit<}
+use Rattle.std.proofs.Common.{◌≡◌, ◌∙◌, ◌<◌, Some, refl, sym, ap, lit<}
 use Rattle.wasm_ast.specs.declared.instructions.WInstr.{WInstr, out-WInstr, roll-WInstr, roll-out-WInstr}
 use Rattle.wasm_ast.specs.declared.instructions.WInstr.TheOpen.{WInstr-F}
-use Rattle.wasm_ast.specs.Opcodes.{opcode_in, opcode_of}
-use Rattle.wasm_ast.specs.Immediates.{immediate_in, immediate_of}
+use Rattle.wasm_ast.specs.Opcodes.{opcode_in}
+use Rattle.wasm_ast.specs.Immediates.{immediate_in}
 use Rattle.wasm_ast.specs.ByOpcode.{instruction_at}
 use Rattle.wasm_ast.specs.OpcodeLaws.{OpcodesTellApart, OpcodesAreBytes}
 

@@ -1,5 +1,4 @@
 -- What an `ImmediateRef` shows of an instruction (this project's own).
-use Rattle.std.specs.Prelude.{ℕ}
 use Rattle.wasm_ast.specs.declared.instructions.WInstr.{WInstr}
 use Rattle.wasm_ast.specs.declared.immediate.ImmediateRef.{ImmediateRef}
 use Rattle.wasm_ast.specs.declared.immediate.ImmediateRef.TheVariants as ref

@@ -1,6 +1,7 @@
 //! Trees of WebAssembly 1.0 modules, integer profile, and the opcode and immediates of each instruction.
 #![tactic(auto)]
 
+mod by_opcode;
 mod immediate;
 mod instructions;
 mod laws;
@@ -9,6 +10,7 @@ mod modules;
 mod opcode;
 mod types;
 
+pub use by_opcode::{bare_instruction, index_instruction, memory_instruction, zero_instruction};
 pub use immediate::ImmediateRef;
 pub use instructions::WInstr;
 pub use laws::opcodes_tell_apart;

@@ -1,3 +1,4 @@
+use crate::by_opcode::{bare_instruction, index_instruction, memory_instruction, zero_instruction};
 use crate::immediate::ImmediateRef;
 use crate::instructions::WInstr;
 use crate::list::List;
@@ -65,4 +66,18 @@ fn a_list_keeps_its_entries(rt: HostRuntime) -> Result<(), Fail> {
     let same = List::from_vec(vec![in rt.alloc(); 5u32, 7]?)?;
     assert_eq!(rt; same.as_slice(), list.as_slice());
     Ok(())
+}
+
+#[test]
+fn instructions_by_opcode(rt: HostRuntime) {
+    assert!(rt; matches!(bare_instruction(0x6A), Some(WInstr::I32Add)));
+    assert!(rt; bare_instruction(0x0B).is_none());
+    assert!(rt; matches!(index_instruction(0x20, 3), Some(WInstr::LocalGet(3))));
+    assert!(rt; matches!(zero_instruction(0x3F), Some(WInstr::MemorySize)));
+    assert!(rt;
+        matches!(
+            memory_instruction(0x35, 2, 8),
+            Some(WInstr::I64Load32U(2, 8))
+        )
+    );
 }

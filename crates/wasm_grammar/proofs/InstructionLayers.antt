@@ -1,6 +1,6 @@
 -- Bytes and nesting, one layer at a time: the fold's own equation, with the nested results taken back to
 -- the nested instructions.
-use Rattle.std.proofs.Common.{◌≡◌, ◌∙◌, ℕ, ◌+◌, List, [], ◌∷◌, ◌++◌, max, map, refl, ap}
+use Rattle.std.proofs.Common.{◌≡◌, ◌∙◌, ℕ, ◌+◌, List, [], ◌∷◌, ◌++◌, max, map, refl, sym, ap}
 use Rattle.std.specs.List.{flat_map}
 use Rattle.wasm_ast.specs.declared.instructions.WInstr.{WInstr, roll-WInstr, out-roll-WInstr}
 use Rattle.wasm_ast.specs.declared.instructions.WInstr.TheOpen.{WInstr-F}
@@ -47,3 +47,9 @@ pub instruction_bytes-roll : (x : WInstr-F WInstr) → instruction_bytes (roll-W
 instruction_bytes-roll x =
     instruction_bytes-layer (roll-WInstr x)
     ∙ ap (λ layer. opcode_in layer ∷ immediate_bytes instruction_bytes (immediate_in layer)) (out-roll-WInstr x)
+
+-- the bytes of an instruction from an opcode and immediates that were found to be its own
+pub instruction_bytes-parts : (w : WInstr) (opcode : ℕ) (immediate : Immediate WInstr) → opcode ≡ opcode_of w → immediate ≡ immediate_of w → instruction_bytes w ≡ opcode ∷ immediate_bytes instruction_bytes immediate
+instruction_bytes-parts w opcode immediate o i =
+    instruction_bytes-layer w ∙ ap (λ first. first ∷ immediate_bytes instruction_bytes (immediate_of w)) (sym o)
+    ∙ ap (λ rest. opcode ∷ immediate_bytes instruction_bytes rest) (sym i)
