@@ -1,3 +1,1 @@
 pub mod FirstLong
-pub mod Layers
-pub mod Lengths

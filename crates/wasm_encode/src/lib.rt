@@ -7,11 +7,13 @@ mod error;
 mod functions;
 mod instructions;
 mod module;
+mod nesting;
 mod section;
 mod vector;
 
 pub use error::EncodeError;
 pub use module::encode;
+pub use nesting::nests_at_most;
 pub use section::{OpenSection, open_section};
 
 #[cfg(test)]
