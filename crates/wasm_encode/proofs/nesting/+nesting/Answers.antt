@@ -17,4 +17,4 @@ instruction_nests-returns-then-block_nests t c =
 pub instruction_nests-returns-else-block_nests : goal.instruction_nests-returns-else-block_nests
 instruction_nests-returns-else-block_nests t c =
     let depth = nesting-layer c.args.instruction.now ∙ ap (immediate_nesting nesting) (sym c.in-Bodies.ensures.immediate) in
-    rw depth (λ h. absurd (let e : true ≡ false = cc in cc e), λ h. c.block_nests-in-Bodies.ensures.1 (omega arith))
+    rw depth (λ h. absurd (cc), λ h. c.block_nests-in-Bodies.ensures.1 (omega arith))
