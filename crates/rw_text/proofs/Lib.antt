@@ -1,3 +1,6 @@
+pub mod Digits
+pub mod Instrs
 pub mod Runs
 pub mod Leading
+pub mod Literals
 pub mod TokenLemmas

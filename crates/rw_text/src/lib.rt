@@ -1,5 +1,9 @@
 //! The reader of Rich texts.
 #![tactic(auto)]
 
-pub mod tokens;
+mod body;
+mod integers;
+mod reader;
+mod tokens;
 
+pub use reader::{TextError, TextFault, read};
