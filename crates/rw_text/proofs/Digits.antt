@@ -38,3 +38,19 @@ minus_none (w ∷ ws) None some minus none = λ n number.
       inl natural ↦ minus_no_digits ws w minus natural.0.0
     | inr negative ↦ none n (subst (λ (ds : List ℕ). IsNegative ds n) (sym (tail_is w ws negative.0 negative.1)) negative.2)
     ]
+
+minus_or_natural : (word digits : List ℕ) → word ≡ 45 ∷ digits → AreDigits word → ⊥
+minus_or_natural word digits is form = minus_no_digits digits 45 refl (subst AreDigits is form)
+
+tail_same : (word ds es : List ℕ) → word ≡ 45 ∷ ds → word ≡ 45 ∷ es → ds ≡ es
+tail_same word ds es a b = cc
+
+-- a word writes one number at most
+pub i64_one : (word : List ℕ) (n m : ℕ) → IsI64 word n → IsI64 word m → n ≡ m
+i64_one word n m (inl a) (inl b) = a.0.1 ∙ sym b.0.1
+i64_one word n m (inl a) (inr b) = absurd (minus_or_natural word b.0 b.1 a.0.0)
+i64_one word n m (inr a) (inl b) = absurd (minus_or_natural word a.0 a.1 b.0.0)
+i64_one word n m (inr a) (inr b) =
+    let same : a.0 ≡ b.0 = tail_same word a.0 b.0 a.1 b.1 in
+    let value : a.2.0 ≡ b.2.0 = a.2.1.1 ∙ ap value_of same ∙ sym b.2.1.1 in
+    omega (arith, a.2.4, b.2.4, value)

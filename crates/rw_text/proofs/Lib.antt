@@ -1,3 +1,4 @@
+pub mod Bodies
 pub mod Digits
 pub mod Instrs
 pub mod Runs

@@ -23,10 +23,13 @@ pub fn body(alloc: Global, tokens: &mut Tokens<'_>) -> Result<Option<List<Instr>
         if let Token::Close = token {
             return Ok(Some(body));
         }
-        match instr(token, tokens) {
-            Some(instr) if body.len() < MAX_INSTRS => body.push(instr)?,
-            _ => return Ok(None),
+        if body.len() >= MAX_INSTRS {
+            return Ok(None);
         }
+        let Some(instr) = instr(token, tokens) else {
+            return Ok(None);
+        };
+        body.push(instr)?;
     }
     Ok(None)
 }
