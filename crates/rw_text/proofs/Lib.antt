@@ -5,3 +5,4 @@ pub mod Runs
 pub mod Leading
 pub mod Literals
 pub mod TokenLemmas
+pub mod Whole

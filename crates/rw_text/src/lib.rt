@@ -3,7 +3,9 @@
 
 mod body;
 mod integers;
+mod laws;
 mod reader;
 mod tokens;
 
+pub use laws::spells_one_module;
 pub use reader::{TextError, TextFault, read};

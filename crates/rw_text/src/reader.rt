@@ -61,7 +61,10 @@ fn program(alloc: Global, bytes: &[u8]) -> Result<Option<Module>, AllocError>
     let Some(body) = body(alloc, &mut tokens)? else {
         return Ok(None);
     };
-    if !tokens.accept(TAIL) || !tokens.is_at_end() {
+    if !tokens.accept(TAIL) {
+        return Ok(None);
+    }
+    if !tokens.is_at_end() {
         return Ok(None);
     }
     Ok(Some(lone_main(alloc, body)?))
