@@ -30,7 +30,7 @@ unquoted_or_quote b h = eqb-true b 34 (not-false _ h)
 other_mark : (x y : ℕ) (xs ys : List ℕ) → x ∷ xs ≡ y ∷ ys → nat_eq x y ≡ false → ⊥
 other_mark x y xs ys same differ = eqb-false x y differ (let e : x ≡ y = cc in e)
 
-same_tail : {x : ℕ} {xs ys : List ℕ} → x ∷ xs ≡ x ∷ ys → xs ≡ ys
+pub same_tail : {x : ℕ} {xs ys : List ℕ} → x ∷ xs ≡ x ∷ ys → xs ≡ ys
 same_tail {x} {xs} {ys} same = cc
 
 -- `&xs[1..]`
@@ -126,9 +126,10 @@ two_texts : (text n m r s : List ℕ) → Starts text (Text n) r → Starts text
 two_texts text n m r s a b =
     let same : n ++ 34 ∷ r ≡ m ++ 34 ∷ s = same_tail (sym (quoted-append n r) ∙ sym a.is ∙ b.is ∙ quoted-append m s) in
     let first = list_all_more_pass is_name_byte is_unquoted name_byte_unquoted n a.token.each in
-    let second = list_all_more_pass is_name_byte is_unquoted name_byte_unquoted m b.token.each in
-    (ap Text (sym (front_of is_unquoted (n ++ 34 ∷ r) n (34 ∷ r) refl first refl) ∙ front_of is_unquoted (n ++ 34 ∷ r) m (34 ∷ s) same second refl),
-    same_tail (sym (back_of is_unquoted (n ++ 34 ∷ r) n (34 ∷ r) refl first refl) ∙ back_of is_unquoted (n ++ 34 ∷ r) m (34 ∷ s) same second refl))
+    let second = list_all_more_pass is_name_byte is_unquoted name_byte_unquoted m b.token.each in (
+      ap Text (sym (front_of is_unquoted (n ++ 34 ∷ r) n (34 ∷ r) refl first refl) ∙ front_of is_unquoted (n ++ 34 ∷ r) m (34 ∷ s) same second refl),
+      same_tail (sym (back_of is_unquoted (n ++ 34 ∷ r) n (34 ∷ r) refl first refl) ∙ back_of is_unquoted (n ++ 34 ∷ r) m (34 ∷ s) same second refl),
+    )
 
 pub starts_one : (text : List ℕ) (t u : Token) (r s : List ℕ) → Starts text t r → Starts text u s → (t ≡ u) × (r ≡ s)
 starts_one text Open Open r s a b = (refl, same_tail (sym a.is ∙ b.is))

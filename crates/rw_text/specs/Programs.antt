@@ -8,6 +8,7 @@ use Rattle.rw_types.specs.LoneMain.{lone_main}
 use Rattle.rw_text.specs.declared.tokens.Token.{Token}
 use Rattle.rw_text.specs.declared.tokens.Token.TheVariants.{Open, Close, Word, Text}
 use Rattle.rw_text.specs.Numbers.{IsI64}
+use Rattle.rw_text.specs.Tokens.{Leads}
 
 -- `(module 1 (func (fun () () ((unr i64))) (locals)`
 abbrev pub head : List Token
@@ -16,9 +17,9 @@ head =
     Open ∷ Word (codes "fun") ∷ Open ∷ Close ∷ Open ∷ Close ∷ Open ∷ Open ∷ Word (codes "unr") ∷ Word (codes "i64") ∷ Close ∷ Close ∷ Close ∷
     Open ∷ Word (codes "locals") ∷ Close ∷ []
 
--- `) (export "main" 0))`
+-- `(export "main" 0))`
 abbrev pub tail : List Token
-tail = Close ∷ Open ∷ Word (codes "export") ∷ Text (codes "main") ∷ Word (codes "0") ∷ Close ∷ Close ∷ []
+tail = Open ∷ Word (codes "export") ∷ Text (codes "main") ∷ Word (codes "0") ∷ Close ∷ Close ∷ []
 
 -- the tokens of an instruction
 abbrev pub IsInstr : Instr → List Token → Type 0
@@ -40,4 +41,20 @@ pub record IsProgram (ts : List Token) (m : Module) : Type 0 where
   pub is : m ≡ lone_main body
   pub instrs : IsBody body code
   pub short : length body ≤ 1000
-  pub tokens : ts ≡ head ++ (code ++ tail)
+  pub tokens : ts ≡ head ++ (code ++ Close ∷ tail)
+
+-- bytes that begin with what follows the token `first` in the instruction, and go on with `rest`
+pub record InstrLeads (first : Token) (bytes : List ℕ) (i : Instr) (rest : List ℕ) : Type 0 where
+  pub more : List Token
+  pub instr : IsInstr i (first ∷ more)
+  pub leads : Leads bytes more rest
+
+-- bytes that begin with these instructions and a `)`, and go on with `rest`
+pub record BodyLeads (bytes : List ℕ) (body : List Instr) (rest : List ℕ) : Type 0 where
+  pub code : List Token
+  pub instrs : IsBody body code
+  pub leads : Leads bytes (code ++ Close ∷ []) rest
+
+-- no body of at most 1,000 instructions comes first
+abbrev pub BodyLeadsNone : List ℕ → Type 0
+BodyLeadsNone bytes = (body : List Instr) (rest : List ℕ) → BodyLeads bytes body rest → length body ≤ 1000 → ⊥

@@ -1,6 +1,7 @@
 ghost use Rattle.std.specs.Prelude.{ℕ, ◌≡◌, ◌==◌, ◌↔◌, ◌≤◌, ◌∷◌, List, length, drop, IsTrue, IfSome, IfNone};
 ghost use Rattle.std.specs.List.{list_all, prefix_len};
 ghost use Rattle.rw_types.specs.Names.{IsName};
+ghost use Rattle.rw_text.specs.declared.tokens.Token.TheVariants.{Word};
 ghost use Rattle.rw_text.specs.Tokens.{Accepts, Begins, BeginsNone, Ends, Starts, StartsNone, is_blank, is_mark, is_unquoted, is_word_byte};
 
 use rw_types::is_name;
@@ -92,6 +93,20 @@ impl<'a> Tokens<'a> {
                 Some(token)
             }
             None => None,
+        }
+    }
+
+    /// Takes the next token off, a word. None where another token comes, or none.
+    pub fn word(&mut self) -> Option<Spelling<'a>>
+        ensures found { IfSome result (λ w. Begins self.old (Word w) self.new) }
+        ensures none { IfNone result ((w rest : List ℕ) → Begins self.old (Word w) rest → ⊥) }
+    {
+        let Some(token) = self.next() else {
+            return None;
+        };
+        match token {
+            Token::Word(word) => Some(word),
+            _ => None,
         }
     }
 
