@@ -2,3 +2,4 @@ pub mod Kinds
 pub mod Table
 pub mod Derivations
 pub mod Violations
+pub mod Laws

@@ -21,11 +21,16 @@ pub record Violation : Type 0 where
   pub found : Option Ty
   pub expected : Option Ty
 
--- operands, the top one first, that are not those demanded: more or fewer, with no type; or as many,
--- with the deepest that differs and the type that is demanded in its place
-pub data Differs (operands demands : List Ty) : Option Ty → Option Ty → Type 0 where
-  in_count : {found expected : Option Ty} → length operands ≢ length demands → found ≡ None → expected ≡ None → Differs operands demands found expected
-  in_type : {found expected : Option Ty} (above above' beneath : List Ty) (t u : Ty) → operands ≡ above ++ t ∷ beneath → demands ≡ above' ++ u ∷ beneath → length above ≡ length above' → t ≢ u → found ≡ Some t → expected ≡ Some u → Differs operands demands found expected
+-- two rows of types, the top ones first, differ, and the deepest that differ are these
+pub data DiffersIn : List Ty → List Ty → Option Ty → Option Ty → Type 0 where
+  here : {t u : Ty} {ts us : List Ty} {found expected : Option Ty} → ts ≡ us → t ≢ u → found ≡ Some t → expected ≡ Some u → DiffersIn (t ∷ ts) (u ∷ us) found expected
+  deeper : {t u : Ty} {ts us : List Ty} {found expected : Option Ty} → DiffersIn ts us found expected → DiffersIn (t ∷ ts) (u ∷ us) found expected
+
+-- operands that are not those demanded: more or fewer, with no type; or as many, with the deepest that
+-- differs and the type that is demanded in its place
+pub data Differs (operands demands : List Ty) (found expected : Option Ty) : Type 0 where
+  in_count : length operands ≢ length demands → found ≡ None → expected ≡ None → Differs operands demands found expected
+  in_type : DiffersIn operands demands found expected → Differs operands demands found expected
 
 -- with these operands the rest of a list breaks a rule at its start: its first instruction does, or,
 -- at the list's end, the operands are not those demanded
@@ -33,19 +38,24 @@ pub data BreaksHere (binders : List Binder) (demands : List Ty) : List Instr →
   at_instr : {i : Instr} {is : List Instr} {operands : List Ty} {broken : Rule} {found expected : Option Ty} → row binders i operands ≡ Breaks broken found expected → BreaksHere binders demands (i ∷ is) operands broken found expected
   at_end : {operands : List Ty} {broken : Rule} {found expected : Option Ty} → broken ≡ BlockEnd → Differs operands demands found expected → BreaksHere binders demands [] operands broken found expected
 
--- the instructions before this place of a body have a derivation, and at the place a rule is broken
-pub record BreaksAt (f : FuncDef) (at : ℕ) (broken : Rule) (found expected : Option Ty) : Type 0 where
+-- from these operands the instructions before this place of a list have a derivation, and at the place
+-- a rule is broken
+pub record BreaksAt (binders : List Binder) (demands : List Ty) (body : List Instr) (operands : List Ty) (at : ℕ) (broken : Rule) (found expected : Option Ty) : Type 0 where
   pub before : List Instr
   pub rest : List Instr
-  pub whole : f.body ≡ before ++ rest
-  pub place : length before ≡ at
+  pub whole : body ≡ before ++ rest
+  pub place : at ≡ length before
   pub notes : List Note
-  pub operands : List Ty
-  pub derived : Derives f.ty.binders before [] notes operands
-  pub breaks : BreaksHere f.ty.binders (demanded f) rest operands broken found expected
+  pub reached : List Ty
+  pub derived : Derives binders before operands notes reached
+  pub breaks : BreaksHere binders demands rest reached broken found expected
+
+-- the first violation of a function's body
+abbrev pub BreaksBody : FuncDef → ℕ → Rule → Option Ty → Option Ty → Type 0
+BreaksBody f at broken found expected = BreaksAt f.ty.binders (demanded f) f.body [] at broken found expected
 
 -- the first violation of a module: in the body of its one function; or it is of a part of the language
 -- that is not checked yet
-pub data FirstViolation (m : Module) : Violation → Type 0 where
-  in_body : {v : Violation} (lone : IsLoneMain m) (f : FuncDef) (at : ℕ) → m.funcs ≡ f ∷ [] → v.place ≡ FuncAt 0 (at ∷ []) → BreaksAt f at v.broken v.found v.expected → FirstViolation m v
-  not_built : {v : Violation} → (IsLoneMain m → ⊥) → v.place ≡ FuncType 0 → v.broken ≡ NotYetBuilt → v.found ≡ None → v.expected ≡ None → FirstViolation m v
+pub data FirstViolation (m : Module) (v : Violation) : Type 0 where
+  in_body : (f : FuncDef) (at : ℕ) → IsLoneMain m → m.funcs ≡ f ∷ [] → v.place ≡ FuncAt 0 (at ∷ []) → BreaksBody f at v.broken v.found v.expected → FirstViolation m v
+  not_built : (IsLoneMain m → ⊥) → v.place ≡ FuncType 0 → v.broken ≡ NotYetBuilt → v.found ≡ None → v.expected ≡ None → FirstViolation m v

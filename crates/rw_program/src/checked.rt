@@ -3,18 +3,32 @@ ghost use Rattle.rich_meaning.specs.Derivations.{IsTyped};
 
 use rich_meaning::{Note, Place, Rule};
 use rw_types::{List, Module, Ty};
+use std::fmt::{self, Debug, Formatter, Write};
 use std::marker::Model;
+use thiserror::Error;
 
-/// What a check answers in place of a module. `Refused` tells the first violation.
-#[derive(Drop)]
+/// What a check answers in place of a module. `Refused` tells the first violation: its place, the
+/// rule, the type that breaks it and the type that is demanded, where there are such.
+#[derive(Drop, Error)]
 pub enum CheckError {
+    #[error("the module breaks the rule {rule:?}")]
     Refused {
         place: Place,
         rule: Rule,
         found: Option<Ty>,
         expected: Option<Ty>,
     },
+    #[error("out of memory")]
     Memory,
+}
+
+impl Debug for CheckError {
+    fn fmt<W: Write>(&self, f: &mut Formatter<W>) -> fmt::Result {
+        match self {
+            CheckError::Refused { rule, .. } => write!(f, "Refused({rule:?})"),
+            CheckError::Memory => f.write_str("Memory"),
+        }
+    }
 }
 
 /// A well-typed module, with the notes of its bodies: first those of its functions, then those of its

@@ -1,0 +1,3 @@
+pub mod Unique
+pub mod LoneBodies
+pub mod LoneModules

@@ -1,0 +1,14 @@
+ghost use Rattle.rich_meaning.specs.Laws.{TypedOrRefused, NeverBoth, OneDerivation, OneViolation, LoneViolations};
+
+/// A law: a module has a derivation or exactly one first violation, and never both.
+pub fn typed_or_refused()
+    ensures either { TypedOrRefused }
+    ensures never_both { NeverBoth }
+    ensures one_derivation { OneDerivation }
+    ensures one_violation { OneViolation }
+{}
+
+/// A law on the modules that are built so far: what is missing or left over is told without a type.
+pub fn lone_violations()
+    ensures { LoneViolations }
+{}
