@@ -80,4 +80,4 @@ derived_within limit [] operands notes end (done e same) all plain le = subst (A
 derived_within limit (i ∷ is) operands notes end (next after later gives tells rest) all plain le =
     let step = goes i operands after plain.0 all gives in
     subst (AreWithin limit) (sym tells)
-        (step.note limit (omega arith), derived_within limit is after later end rest step.words plain.1 (omega (arith, step.more)))
+    (step.note limit (omega arith), derived_within limit is after later end rest step.words plain.1 (omega (arith, step.more)))

@@ -1,3 +1,4 @@
 pub mod Lists
 pub mod Derived
 pub mod Lowered
+pub mod Nested

@@ -36,6 +36,15 @@ pub same_module : (a b : WModule) → a.types ≡ b.types → a.imports ≡ b.im
     a.exports ≡ b.exports → a.start ≡ b.start → a.elements ≡ b.elements → a.codes ≡ b.codes → a.segments ≡ b.segments → a ≡ b
 same_module a b types imports funcs tables memories globals exports start elements codes segments =
     λ i. record {
-      types = types i; imports = imports i; funcs = funcs i; tables = tables i; memories = memories i; globals = globals i;
-      exports = exports i; start = start i; elements = elements i; codes = codes i; segments = segments i;
+      types = types i;
+      imports = imports i;
+      funcs = funcs i;
+      tables = tables i;
+      memories = memories i;
+      globals = globals i;
+      exports = exports i;
+      start = start i;
+      elements = elements i;
+      codes = codes i;
+      segments = segments i;
     }

@@ -1,5 +1,6 @@
 // The lowered module of a linked program.
 ghost use Rattle.std.specs.Prelude.{◌≡◌, [], ◌∷◌, ◌++◌, IfOk};
+ghost use Rattle.wasm_grammar.specs.Nesting.{ModuleNestsAtMost, nesting_limit};
 ghost use Rattle.rw_program.specs.LonePrograms.{IsLoneProgram, lone_func, lone_program};
 ghost use Rattle.lowering_table.specs.Allocators.{unreachable_code};
 ghost use Rattle.lowering_table.specs.Modules.{ArePages, low_function, low_module, main_code};
@@ -15,7 +16,8 @@ use wasm_ast::{Code, Limits, List, WInstr, WModule};
 /// (this project's own). Want of memory is its one answer beside it.
 pub fn lower(alloc: Global, p: &Linked, pages: &Pages) -> Result<WModule, LowerError>
     requires { ArePages pages.now }
-    ensures { IfOk result (λ lowered. lowered ≡ low_module p.now pages.now) }
+    ensures low { IfOk result (λ lowered. lowered ≡ low_module p.now pages.now) }
+    ensures nests { IfOk result (ModuleNestsAtMost nesting_limit) }
 {
     let [func] = p.funcs().as_slice() else {
         unreachable!()

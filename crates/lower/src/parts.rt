@@ -8,7 +8,8 @@ use crate::LowerError;
 use lowering_table::Pages;
 use std::alloc::Global;
 use wasm_ast::{
-    DataSeg, ElemSeg, Export, ExportKind, FuncType, Import, ImportKind, Limits, List, ValTy, WGlobal, WInstr,
+    DataSeg, ElemSeg, Export, ExportKind, FuncType, Import, ImportKind, Limits, List, ValTy,
+    WGlobal, WInstr,
 };
 
 const WORD: [ValTy; 1] = [ValTy::I64];

@@ -68,7 +68,7 @@ abbrev pub low_function : LinkedFunc → Code
 low_function f =
     let frame = frame_of f in
     code_of (declared_locals frame)
-        (rows (first_operand frame) f.body f.notes ++ gives (words_of f.ty.binders f.ty.results) (first_operand frame) globals_before)
+    (rows (first_operand frame) f.body f.notes ++ gives (words_of f.ty.binders f.ty.results) (first_operand frame) globals_before)
 
 -- the greatest number of result words of a function
 abbrev pub result_words : List LinkedFunc → ℕ

@@ -1,4 +1,6 @@
-use Rattle.std.proofs.Common.{refl, sym, ◌∙◌}
+use Rattle.std.proofs.Common.{refl, sym, subst, ◌∙◌}
+use Rattle.wasm_grammar.specs.Nesting.{ModuleNestsAtMost, nesting_limit}
+use Rattle.lower.proofs.Nested.{nests}
 use Rattle.lower.specs.Lone.{lone_module}
 use Rattle.lower.proofs.Lowered.{lone_of, low_module_of, same_module}
 use Rattle.lower.proofs.low.lower.Goals as goal
@@ -7,7 +9,15 @@ pub codes-requires : goal.codes-requires
 codes-requires c =
     lone_of c.args.p.now c.as_slice.result.now c.func-item.result c.funcs.ensures.form (c.as_slice.ensures.items ∙ c.funcs.ensures.value) c.func-item.is
 
-pub returns : goal.returns
-returns c =
+pub returns-clause-low : goal.returns-clause-low
+returns-clause-low c =
     same_module _ (lone_module c.func-item.result c.args.pages.now) c.in_ok-types.ensures c.in_ok-imports.ensures c.in_ok-from_slice.ensures.ok c.in_ok-from_slice-2.ensures.ok c.in_ok-memories.ensures c.in_ok-globals.ensures c.in_ok-exports.ensures refl c.in_ok-elements.ensures c.in_ok-codes.ensures c.in_ok-segments.ensures
     ∙ sym (low_module_of c.args.p.now c.as_slice.result.now c.func-item.result c.args.pages.now c.funcs.ensures.form (c.as_slice.ensures.items ∙ c.funcs.ensures.value) c.func-item.is)
+
+pub returns-clause-nests : goal.returns-clause-nests
+returns-clause-nests c =
+    let f = c.func-item.result in
+    let lone = lone_of c.args.p.now c.as_slice.result.now f c.funcs.ensures.form (c.as_slice.ensures.items ∙ c.funcs.ensures.value) c.func-item.is in
+    subst (ModuleNestsAtMost nesting_limit)
+    (sym (same_module _ (lone_module f c.args.pages.now) c.in_ok-types.ensures c.in_ok-imports.ensures c.in_ok-from_slice.ensures.ok c.in_ok-from_slice-2.ensures.ok c.in_ok-memories.ensures c.in_ok-globals.ensures c.in_ok-exports.ensures refl c.in_ok-elements.ensures c.in_ok-codes.ensures c.in_ok-segments.ensures))
+    (nests f c.args.pages.now lone)
