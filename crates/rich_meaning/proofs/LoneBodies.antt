@@ -8,14 +8,9 @@ use Rattle.rw_types.specs.LoneMain.{IsPlain, ArePlain}
 use Rattle.rich_meaning.specs.declared.notes.Note.{Note}
 use Rattle.rich_meaning.specs.declared.rules.Rule.{Rule}
 use Rattle.rich_meaning.specs.declared.rules.Rule.TheVariants.{Operands, BlockEnd}
-use Rattle.rich_meaning.specs.Table.{Gives, Breaks, row, note_of, unr_i64}
+use Rattle.rich_meaning.specs.Table.{Gives, Breaks, row, note_of, unr_i64, i64s}
 use Rattle.rich_meaning.specs.Derivations.{Derives, done, next}
 use Rattle.rich_meaning.specs.Violations.{in_count, at_instr, at_end, BreaksAt}
-
--- so many operands, each a number of 64 bits
-abbrev pub i64s : ℕ → List Ty
-i64s zero = []
-i64s (suc k) = unr_i64 ∷ i64s k
 
 -- a plain instruction gives such operands, or lacks operands
 plain_row : (i : Instr) → IsPlain i → (k : ℕ) → ((after : ℕ) × (row [] i (i64s k) ≡ Gives (i64s after))) ⊎ (row [] i (i64s k) ≡ Breaks Operands None None)

@@ -1,6 +1,6 @@
 -- The table of the rules of bodies: for each instruction what it takes, its further conditions in
 -- their order, and what it gives. This project's own.
-use Rattle.std.specs.Prelude.{ℕ, List, [], ◌∷◌, Bool, true, false, Option, Some, None, take, drop, reverse}
+use Rattle.std.specs.Prelude.{ℕ, List, [], ◌∷◌, Bool, true, false, Option, Some, None, take, drop, reverse, replicate}
 use Rattle.rw_types.specs.declared.instrs.Instr.{Instr, I64Const, Num, Print, Drop}
 use Rattle.rw_types.specs.declared.numbers.NumName.TheVariants.{I64Add}
 use Rattle.rw_types.specs.declared.types.Binder.{Binder}
@@ -36,6 +36,10 @@ two operands then = Breaks rule.Operands None None
 -- the type of a number of 64 bits
 abbrev pub unr_i64 : Ty
 unr_i64 = Of Unr I64
+
+-- so many operands of that type
+abbrev pub i64s : ℕ → List Ty
+i64s k = replicate k unr_i64
 
 -- an operand that is such a number
 abbrev pub i64_form : Ty → Outcome → Outcome

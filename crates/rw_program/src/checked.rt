@@ -3,6 +3,7 @@ ghost use Rattle.rich_meaning.specs.Derivations.{IsTyped};
 
 use rich_meaning::{Note, Place, Rule};
 use rw_types::{List, Module, Ty};
+use std::alloc::AllocError;
 use std::fmt::{self, Debug, Formatter, Write};
 use std::marker::Model;
 use thiserror::Error;
@@ -20,6 +21,16 @@ pub enum CheckError {
     },
     #[error("out of memory")]
     Memory,
+}
+
+impl From<AllocError> for CheckError {
+    ghost use Rattle.rw_program.specs.declared.checked.CheckError.TheVariants.{Memory};
+
+    ghost from_gives = { λ _ e. e ≡ Memory };
+
+    fn from(_: AllocError) -> CheckError {
+        CheckError::Memory
+    }
 }
 
 impl Debug for CheckError {

@@ -1,0 +1,3 @@
+pub mod PlainLists
+pub mod Counted
+pub mod Refusals
