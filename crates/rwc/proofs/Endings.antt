@@ -12,7 +12,8 @@ use Rattle.rwc.specs.Acts.{Act, Seen, after_act, after_acts, BreaksOff}
 use Rattle.rwc.specs.Endings.{Ends, whole, unwritten, no_memory, no_memory_within, Follows, Keeps, follows, unread, unbegun}
 use Rattle.rwc.specs.Lines.{words_line, read_fault_line, write_fault_line, memory_line}
 use Rattle.rwc.specs.Outcomes.{Tells}
-use Rattle.rwc.specs.Reports.{Job, Refused, refusal_job, ContentLeads, BuildReports, CommandReports}
+use Rattle.rwc.specs.Compiled.{Refused}
+use Rattle.rwc.specs.Reports.{Job, refusal_job, ContentLeads, BuildReports, CommandReports}
 use Rattle.rwc.specs.Stops.{IfStop, Breaks, stop_status, stop_line}
 
 after_acts-append : (xs ys : List Act) (seen : Seen) → after_acts (xs ++ ys) seen ≡ after_acts ys (after_acts xs seen)

@@ -2,7 +2,9 @@ pub mod Acts
 pub mod Lines
 pub mod Words
 pub mod Commands
+pub mod Compiled
 pub mod Reports
 pub mod Endings
 pub mod Stops
 pub mod Outcomes
+pub mod Refusals

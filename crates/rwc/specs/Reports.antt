@@ -1,12 +1,13 @@
 -- What a command does and says, related to its words and the files; this project's own.
-use Rattle.std.specs.Prelude.{◌≡◌, ℕ, ◌<◌, ◌≤◌, ◌⊎◌, List, [], ◌∷◌, length, codes}
+use Rattle.std.specs.Prelude.{◌≡◌, ℕ, ◌<◌, ◌≤◌, ◌⊎◌, List, [], ◌∷◌, length}
 use Rattle.std.specs.declared.option.Option.{Option}
 use Rattle.std.specs.declared.option.Option.TheVariants.{None, Some}
 use Rattle.std.specs.declared.result.Result.{Result}
 use Rattle.std.specs.declared.result.Result.TheVariants.{Ok, Err}
 use Rattle.rw_io.specs.Files.{NamedFile, content_of}
+use Rattle.rwc.specs.Compiled.{Refused, TextLeads}
 use Rattle.rwc.specs.Acts.{Act, create, append, put}
-use Rattle.rwc.specs.Lines.{words_line, missing_line, too_long_line, text_line, wrote_line}
+use Rattle.rwc.specs.Lines.{words_line, missing_line, too_long_line, wrote_line}
 use Rattle.rwc.specs.Words.{Command, build, command_of}
 
 -- the acts in their order, the line to standard error, and the status
@@ -15,11 +16,6 @@ pub record Job : Type 0 where
   pub line : List ℕ
   pub status : ℕ
 
--- a refusal: its status, and the line that says why
-pub record Refused : Type 0 where
-  pub status : ℕ
-  pub line : List ℕ
-
 -- a job that does nothing but refuse
 abbrev pub refusal_job : Refused → Job
 refusal_job refused = record { acts = []; line = refused.line; status = refused.status }
@@ -27,10 +23,6 @@ refusal_job refused = record { acts = []; line = refused.line; status = refused.
 -- the greatest length of a file, in bytes
 abbrev pub max_file_length : ℕ
 max_file_length = 16777216
-
--- what the text of a file leads to: no text is read yet
-abbrev pub TextLeads : List ℕ → List ℕ → Result (List ℕ) Refused → Type 0
-TextLeads file bytes binary = binary ≡ Err (record { status = 1; line = text_line file 1 1 (codes "NotYetBuilt") })
 
 -- the bytes of a file with this content, or the refusal of one that is missing or too long
 abbrev pub LoadLeads : List ℕ → Option (List ℕ) → Result (List ℕ) Refused → Type 0

@@ -1,5 +1,5 @@
 -- What the code's endings say.
-use Rattle.std.specs.Prelude.{◌≡◌, ℕ, List, [], ⊤, Vec, string_bytes}
+use Rattle.std.specs.Prelude.{◌≡◌, ◌⊎◌, ℕ, List, [], ⊤, Vec, string_bytes}
 use Rattle.std.specs.declared.alloc.Global.{Global}
 use Rattle.std.specs.declared.result.Result.{Result}
 use Rattle.std.specs.declared.result.Result.TheVariants.{Ok, Err}
@@ -9,7 +9,7 @@ use Rattle.rwc.specs.declared.ending.Stop.{Stop}
 use Rattle.rwc.specs.declared.ending.Stop.TheVariants.{Refused as IsRefused, Unread, Unwritten, Memory}
 use Rattle.rwc.specs.Acts.{Act, Seen, IsPart, after_act, after_acts}
 use Rattle.rwc.specs.Lines.{memory_line, read_fault_line, write_fault_line}
-use Rattle.rwc.specs.Reports.{Refused}
+use Rattle.rwc.specs.Compiled.{Refused}
 
 abbrev pub done_status : Done → ℕ
 done_status Finished = 0
@@ -64,3 +64,7 @@ pub record Breaks (act : Act) (before after : Seen) (stop : Stop) : Type 0 where
 abbrev pub Performs : {T : Type 0} → Act → Seen → Seen → Result T Stop → Type 0
 Performs act before after (Ok _) = after ≡ after_act act before
 Performs act before after (Err stop) = Breaks act before after stop
+
+-- the statuses of a refused file: a text or a module, a missing or too long file, too much in the binary
+abbrev pub IsRefusal : ℕ → Type 0
+IsRefusal status = (status ≡ 1) ⊎ ((status ≡ 3) ⊎ (status ≡ 11))

@@ -1,14 +1,16 @@
 // The command `build`: a binary is made of a file, created under a name, and a line says so.
-ghost use Rattle.std.specs.Prelude.{◌≡◌, ◌⊎◌, List, Ok, Some};
+ghost use Rattle.std.specs.Prelude.{◌≡◌, true, List, Ok, Some};
 ghost use Rattle.rw_io.specs.Counts.{Rose};
 ghost use Rattle.rw_io.specs.Files.{NamedFile, content_of};
 ghost use Rattle.rw_io.specs.States.{NoShelfCountFell};
 ghost use Rattle.rwc.specs.Acts.{seen_of};
 ghost use Rattle.rwc.specs.Endings.{Follows, Keeps, WriteRose};
 ghost use Rattle.rwc.specs.Lines.{read_fault_line};
-ghost use Rattle.rwc.specs.Reports.{TextLeads, ContentLeads, BuildReports, build_job, LoadLeads};
-ghost use Rattle.rwc.specs.Stops.{IsStep, IfStopped, status_of, line_of};
+ghost use Rattle.rwc.specs.Reports.{ContentLeads, BuildReports, build_job, LoadLeads};
+ghost use Rattle.rwc.specs.Words.{is_source_file};
+ghost use Rattle.rwc.specs.Stops.{IsRefusal, IsStep, IfStopped, status_of, line_of};
 
+use crate::compile::binary_of_text;
 use crate::ending::{Done, Stop};
 use crate::lines;
 use crate::perform::{append_piece, create_file, put_piece};
@@ -36,19 +38,12 @@ fn load_file<S: Shelf>(alloc: Global, shelf: &mut S, file: &str) -> Result<Vec<u
     }
 }
 
-/// The binary of a file's text.
-fn binary_of_text(alloc: Global, file: &str, _bytes: &[u8]) -> Result<Vec<u8>, Stop>
-    ensures leads { IsStep (TextLeads file.now _bytes.now) result }
-    ensures causes { IfStopped result (λ status _. status ≡ 1) (λ _. ⊥) (λ _. ⊥) }
-{
-    Err(Stop::refused(1, lines::text(alloc, file, 1, 1, "NotYetBuilt")))
-}
-
 /// The binary that a file gives.
 fn binary_of_file<S: Shelf>(alloc: Global, shelf: &mut S, file: &str) -> Result<Vec<u8>, Stop>
+    requires { is_source_file file.now ≡ true }
     ensures content { (files : List NamedFile) → (S.state shelf.old).holding.files ≡ Some files
         → IsStep (ContentLeads file.now (content_of files file.now)) result }
-    ensures causes { IfStopped result (λ status _. (status ≡ 1) ⊎ (status ≡ 3))
+    ensures causes { IfStopped result (λ status _. IsRefusal status)
         (λ line. (line ≡ read_fault_line file.now) × Rose (S.state shelf.old).load_faults (S.state shelf.new).load_faults) (λ _. ⊥) }
     ensures same { (S.state shelf.new).holding ≡ (S.state shelf.old).holding }
     ensures counts { NoShelfCountFell (S.state shelf.old) (S.state shelf.new) }
@@ -96,10 +91,11 @@ pub fn build<S: Shelf, O: Sink>(
     shelf: &mut S,
     out: &mut O,
 ) -> Result<Done, Stop>
+    requires { is_source_file file.now ≡ true }
     ensures keeps { (files : List NamedFile) → (S.state shelf.old).holding.files ≡ Some files
         → Keeps (BuildReports name.now file.now files) (seen_of (S.state shelf.old) (O.state out.old))
         (seen_of (S.state shelf.new) (O.state out.new)) (status_of result) (line_of result) }
-    ensures causes { IfStopped result (λ status _. (status ≡ 1) ⊎ (status ≡ 3))
+    ensures causes { IfStopped result (λ status _. IsRefusal status)
         (λ _. Rose (S.state shelf.old).load_faults (S.state shelf.new).load_faults)
         (λ _. WriteRose (S.state shelf.old) (S.state shelf.new) (O.state out.old) (O.state out.new)) }
 {

@@ -2,9 +2,11 @@
 #![tactic(auto)]
 
 mod build;
+mod compile;
 mod ending;
 mod lines;
 mod perform;
+mod refusals;
 mod sources;
 mod top;
 mod words;

@@ -7,7 +7,7 @@ ghost use Rattle.rwc.specs.Endings.{Keeps, WriteRose};
 ghost use Rattle.rwc.specs.Lines.{words_line};
 ghost use Rattle.rwc.specs.Outcomes.{Tells, Outcome};
 ghost use Rattle.rwc.specs.Reports.{Reports};
-ghost use Rattle.rwc.specs.Stops.{stop_status, stop_line, status_of, line_of, IfStop, IfStopped};
+ghost use Rattle.rwc.specs.Stops.{IsRefusal, stop_status, stop_line, status_of, line_of, IfStop, IfStopped};
 ghost use Rattle.rwc.specs.Words.{command_of};
 
 use crate::build::build;
@@ -50,7 +50,7 @@ fn perform<S: Shelf, O: Sink>(
         → Keeps (Reports (map string_bytes words.now) files) (seen_of (S.state shelf.old) (O.state out.old))
         (seen_of (S.state shelf.new) (O.state out.new)) (status_of result) (line_of result) }
     ensures not_plain { command_of (map string_bytes words.now) ≡ None → IsErr result × IfStopped result (λ status _. status ≡ 2) (λ _. ⊥) (λ _. ⊥) }
-    ensures causes { IfStopped result (λ status _. ((status ≡ 2) × (command_of (map string_bytes words.now) ≡ None)) ⊎ ((status ≡ 1) ⊎ (status ≡ 3)))
+    ensures causes { IfStopped result (λ status _. ((status ≡ 2) × (command_of (map string_bytes words.now) ≡ None)) ⊎ IsRefusal status)
         (λ _. Rose (S.state shelf.old).load_faults (S.state shelf.new).load_faults)
         (λ _. WriteRose (S.state shelf.old) (S.state shelf.new) (O.state out.old) (O.state out.new)) }
 {

@@ -1,5 +1,5 @@
 // The words of the command line, by the plain form.
-ghost use Rattle.std.specs.Prelude.{◌≡◌, map, string_bytes};
+ghost use Rattle.std.specs.Prelude.{◌≡◌, map, string_bytes, true, IfSome};
 ghost use Rattle.std.specs.Option.{option_map};
 ghost use Rattle.rwc.specs.Words.{command_of, is_plain_name, is_source_file};
 ghost use Rattle.rwc.specs.Commands.{spelled_command};
@@ -15,7 +15,8 @@ pub struct BuildCommand<'a> {
 
 /// The command that words of the plain form spell.
 pub fn read_words<'a>(words: &'a [String]) -> Option<BuildCommand<'a>>
-    ensures { option_map spelled_command result ≡ command_of (map string_bytes words.now) }
+    ensures command { option_map spelled_command result ≡ command_of (map string_bytes words.now) }
+    ensures source { IfSome result (λ command. is_source_file command.file.now ≡ true) }
 {
     let [command, flag, name, file] = words else {
         return None;

@@ -1,0 +1,49 @@
+-- What the text of a file leads to: the bytes of a binary, or a refusal; this project's own.
+use Rattle.std.specs.Prelude.{◌≡◌, ℕ, List, codes, None, Some}
+use Rattle.std.specs.declared.result.Result.{Result}
+use Rattle.std.specs.declared.result.Result.TheVariants.{Ok, Err}
+use Rattle.wasm_ast.specs.declared.modules.WModule.{WModule}
+use Rattle.wasm_grammar.specs.CanonicalModules.{module_bytes}
+use Rattle.wasm_encode.specs.Contents.{EachContentFits, IsFirstTooLong}
+use Rattle.rw_types.specs.declared.modules.Module.{Module}
+use Rattle.rw_text.specs.Spells.{Spells, SpellsNone}
+use Rattle.rich_meaning.specs.declared.notes.Note.{Note}
+use Rattle.rich_meaning.specs.Derivations.{IsTyped}
+use Rattle.rich_meaning.specs.Violations.{Violation, FirstViolation}
+use Rattle.rw_program.specs.Modules.{TypedModule}
+use Rattle.rw_program.specs.Programs.{Program}
+use Rattle.rw_program.specs.Linking.{program_of}
+use Rattle.lowering_table.specs.declared.Pages.{Pages}
+use Rattle.lowering_table.specs.Modules.{low_module}
+use Rattle.rwc.specs.Lines.{text_line, too_many_line}
+use Rattle.rwc.specs.Refusals.{refused_line}
+
+-- a refusal: its status, and the line that says why
+pub record Refused : Type 0 where
+  pub status : ℕ
+  pub line : List ℕ
+
+-- the pages of the linear part and of the unrestricted region that a binary is built with
+abbrev pub default_pages : Pages
+default_pages = record { lin = 16; unr = 16 }
+
+-- the canonical bytes of a WebAssembly module, or its first section that is too long to have any
+pub data BinaryLeads (m : WModule) (binary : Result (List ℕ) Refused) : Type 0 where
+  fits : EachContentFits m → binary ≡ Ok (module_bytes m) → BinaryLeads m binary
+  too_long : (id : ℕ) → IsFirstTooLong m id → binary ≡ Err (record { status = 11; line = too_many_line id }) → BinaryLeads m binary
+
+-- what a checked module leads to, which is linked alone
+pub record CheckedLeads (file : TypedModule) (binary : Result (List ℕ) Refused) : Type 0 where
+  pub program : Program
+  pub linked : program_of file ≡ Some program
+  pub leads : BinaryLeads (low_module program default_pages) binary
+
+-- what a module leads to: its first violation is told, or the program that it is alone is lowered
+pub data ModuleLeads (file : List ℕ) (m : Module) (binary : Result (List ℕ) Refused) : Type 0 where
+  refused : (v : Violation) → FirstViolation m v → v.found ≡ None → v.expected ≡ None → binary ≡ Err (record { status = 1; line = refused_line file v.place v.broken }) → ModuleLeads file m binary
+  typed : (notes : List (List Note)) → IsTyped m notes → CheckedLeads (record { source = m; notes = notes }) binary → ModuleLeads file m binary
+
+-- what bytes lead to: they are no text that is read so far, or they spell a module
+pub data TextLeads (file bytes : List ℕ) (binary : Result (List ℕ) Refused) : Type 0 where
+  not_read : SpellsNone bytes → binary ≡ Err (record { status = 1; line = text_line file 1 1 (codes "NotYetBuilt") }) → TextLeads file bytes binary
+  spelled : (m : Module) → Spells bytes m → ModuleLeads file m binary → TextLeads file bytes binary
