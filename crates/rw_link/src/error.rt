@@ -1,3 +1,5 @@
+ghost use Rattle.std.specs.Prelude.{◌≡◌};
+
 use rw_types::FunType;
 use std::alloc::AllocError;
 use std::fmt::{self, Debug, Formatter, Write};
@@ -8,11 +10,20 @@ use thiserror::Error;
 #[derive(Drop, Error)]
 pub enum LinkError {
     #[error("files {first} and {second} have one name")]
-    DuplicateModule { first: u32, second: u32 },
+    DuplicateModule {
+        first: u32,
+        second: u32,
+    },
     #[error("import {import} of file {file} names no file")]
-    NoModule { file: u32, import: u32 },
+    NoModule {
+        file: u32,
+        import: u32,
+    },
     #[error("import {import} of file {file} names no export")]
-    NoExport { file: u32, import: u32 },
+    NoExport {
+        file: u32,
+        import: u32,
+    },
     #[error("import {import} of file {file} has another type than its export")]
     TypeDiffers {
         file: u32,

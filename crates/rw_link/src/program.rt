@@ -1,5 +1,5 @@
-ghost use Rattle.std.specs.Prelude.{◌≡◌, ◌↔◌, ◌≤◌, [], length, codes, Err, IfOk, IfErr};
-ghost use Rattle.rw_program.specs.Linking.{exported};
+ghost use Rattle.std.specs.Prelude.{◌≡◌, ◌↔◌, ◌≤◌, [], length, codes, Err, IfOk, IfErr, MatchResult, Some};
+ghost use Rattle.rw_program.specs.Linking.{exported, program_of};
 ghost use Rattle.rw_link.specs.Answers.{LinksTo, IsNoMainOrMemory};
 
 use crate::error::LinkError;
@@ -20,4 +20,35 @@ pub fn link(alloc: Global, files: Vec<(Name, Checked)>) -> Result<Linked, LinkEr
         return Err(LinkError::NoMain);
     };
     link_file(alloc, file)
+}
+
+/// The program of the first file alone.
+fn link_file(alloc: Global, file: Checked) -> Result<Linked, LinkError>
+    ensures { MatchResult result (λ program. program_of file ≡ Some program) (λ e. e ≡ LinkError.Memory) }
+{
+    let (source, mut bodies) = file.into_parts();
+    let main = main_export(source.exports.as_slice());
+    let mut funcs = source.funcs;
+    let (Some(func), Some(notes), Some(main)) = (funcs.pop(), bodies.pop(), main) else {
+        unreachable!()
+    };
+    let mut linked = List::new(alloc);
+    linked.push(LinkedFunc {
+        file: 0,
+        ty: func.ty,
+        locals: func.locals,
+        body: func.body,
+        notes,
+    })?;
+    Ok(Linked::new(linked, List::new(alloc), main))
+}
+
+/// The number of the function that is exported as `main`.
+fn main_export(exports: &[ExportDef]) -> Option<u32>
+    ensures { result ≡ exported (codes "main") exports.now }
+{
+    exports
+        .iter()
+        .find(|export| export.name.as_slice() == b"main".as_slice())
+        .map(|export| export.func)
 }

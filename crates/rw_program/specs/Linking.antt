@@ -1,5 +1,6 @@
 -- The linked program of one file without imports. This project's own.
-use Rattle.std.specs.Prelude.{ℕ, List, [], ◌∷◌, Option, Some, None, length, drop, codes, if◌then◌else◌}
+use Rattle.std.specs.Prelude.{ℕ, List, [], ◌∷◌, Option, Some, None, length, drop, codes, find}
+use Rattle.std.specs.Option.{option_map}
 use Rattle.std.specs.Str.{bytes_eq}
 use Rattle.rw_types.specs.declared.modules.ExportDef.{ExportDef}
 use Rattle.rw_types.specs.declared.modules.FuncDef.{FuncDef}
@@ -22,8 +23,7 @@ linked_globals file _ _ = []
 
 -- the number of the function that is exported by this name
 abbrev pub exported : List ℕ → List ExportDef → Option ℕ
-exported name [] = None
-exported name (e ∷ es) = if bytes_eq e.name name then Some e.func else exported name es
+exported name exports = option_map (λ e. e.func) (find (λ e. bytes_eq e.name name) exports)
 
 -- the program of these functions and globals, where there is a main function
 abbrev pub program_with : List LinkedFunc → List LinkedGlobal → Option ℕ → Option Program
