@@ -1,12 +1,12 @@
 -- Rows of the table at a count of numbers of 64 bits, and derivations and violations that are found
 -- one instruction at a time.
-use Rattle.std.proofs.Common.{◌≡◌, ◌≢◌, ◌≤◌, ◌<◌, ℕ, zero, suc, ◌+◌, ◌-◌, List, [], ◌∷◌, ◌++◌, Option, None, length, get_or, take, drop, arith, refl, sym, ap, ◌∙◌, subst, drop-cons, append-nil}
+use Rattle.std.proofs.Common.{◌≡◌, ◌≢◌, ◌≤◌, ◌<◌, ℕ, zero, suc, ◌+◌, ◌-◌, List, [], ◌∷◌, ◌++◌, None, length, get_or, take, drop, arith, refl, sym, ap, ◌∙◌, subst, drop-cons, append-nil}
 use Rattle.std.proofs.lemmas.List.{take_more, take-append-drop, length-take-le, length-replicate, take_all}
 use Rattle.rw_types.specs.declared.instrs.Instr.{Instr, I64Const, Num, Print, Drop}
 use Rattle.rw_types.specs.declared.numbers.NumName.TheVariants.{I64Add}
 use Rattle.rw_types.specs.declared.types.Binder.{Binder}
 use Rattle.rw_types.specs.declared.types.Ty.{Ty}
-use Rattle.rw_types.specs.LoneMain.{IsPlain, ArePlain}
+use Rattle.rw_types.specs.LoneMain.{IsPlain}
 use Rattle.rich_meaning.specs.declared.notes.Note.{Note}
 use Rattle.rich_meaning.specs.declared.rules.Rule.{Rule}
 use Rattle.rich_meaning.specs.declared.rules.Rule.TheVariants.{Operands, BlockEnd}
@@ -81,14 +81,14 @@ derives_next body k i {count = count} {notes = notes} below is d p le =
     let after : List Ty = i64s (count - takes i + gives i) in
     let whole : take k body ++ i ∷ [] ≡ take (k + 1) body = ap (λ (j : Instr). take k body ++ j ∷ []) is ∙ sym (take_more body k i below) in
     subst (λ (l : List Instr). Derives [] l [] (notes ++ counted_note (count - takes i) (takes i) ∷ []) after) whole
-      (subst (λ (n : Note). Derives [] (take k body ++ i ∷ []) [] (notes ++ n ∷ []) after) (note_of-i64s i p count le) (derives_end [] (take k body) i d (row_gives i p count le)))
+    (subst (λ (n : Note). Derives [] (take k body ++ i ∷ []) [] (notes ++ n ∷ []) after) (note_of-i64s i p count le) (derives_end [] (take k body) i d (row_gives i p count le)))
 
 pub derives_more : (body : List Instr) (k : ℕ) (i : Instr) {count taken given : ℕ} {notes notes' : List Note} {note : Note} → k < length body → i ≡ get_or body k i → Derives [] (take k body) [] notes (i64s count) → IsPlain i → taken ≡ takes i → given ≡ gives i → taken ≤ count → note ≡ counted_note (count - taken) taken → notes' ≡ notes ++ note ∷ [] → Derives [] (take (k + 1) body) [] notes' (i64s (count - taken + given))
 derives_more body k i {count = count} {taken = taken} {given = given} {notes = notes} {notes' = notes'} {note = note} below is d p et eg le en e =
     let all : notes' ≡ notes ++ counted_note (count - takes i) (takes i) ∷ [] = e ∙ ap (λ (n : Note). notes ++ n ∷ []) (en ∙ ap (λ (t : ℕ). counted_note (count - t) t) et) in
     let left : count - taken + given ≡ count - takes i + gives i = omega arith in
     subst (λ (l : List Note). Derives [] (take (k + 1) body) [] l (i64s (count - taken + given))) (sym all)
-      (subst (λ (n : ℕ). Derives [] (take (k + 1) body) [] (notes ++ counted_note (count - takes i) (takes i) ∷ []) (i64s n)) (sym left) (derives_next body k i below is d p (omega arith)))
+    (subst (λ (n : ℕ). Derives [] (take (k + 1) body) [] (notes ++ counted_note (count - takes i) (takes i) ∷ []) (i64s n)) (sym left) (derives_next body k i below is d p (omega arith)))
 
 -- a derivation of all instructions
 pub derives_whole : (body : List Instr) (k : ℕ) {notes : List Note} {end : List Ty} → length body ≤ k → Derives [] (take k body) [] notes end → Derives [] body [] notes end

@@ -1,5 +1,5 @@
 -- What an answer tells of a body it tells of the module, and what a module is decides the answer.
-use Rattle.std.proofs.Common.{◌≡◌, ◌⊎◌, inl, inr, ℕ, List, [], ◌∷◌, Option, None, Ok, Err, refl, sym, ap, ◌∙◌, subst}
+use Rattle.std.proofs.Common.{◌≡◌, inl, inr, ℕ, List, [], ◌∷◌, Option, None, Ok, Err, refl, sym, ap, ◌∙◌, subst}
 use Rattle.rw_types.specs.declared.instrs.Instr.{Instr}
 use Rattle.rw_types.specs.declared.modules.FuncDef.{FuncDef}
 use Rattle.rw_types.specs.declared.modules.Module.{Module}

@@ -1,13 +1,10 @@
 -- What the answers of a check say of a module. This project's own.
-use Rattle.std.specs.Prelude.{◌≡◌, ◌⊎◌, ℕ, List, [], ◌∷◌, Result, Ok, Err, Option, None, ⊤}
+use Rattle.std.specs.Prelude.{◌≡◌, ◌⊎◌, ℕ, List, [], ◌∷◌, Result, Err, None, ⊤}
 use Rattle.rw_types.specs.declared.instrs.Instr.{Instr}
 use Rattle.rw_types.specs.declared.modules.Module.{Module}
-use Rattle.rw_types.specs.LoneMain.{IsLoneMain}
-use Rattle.rich_meaning.specs.declared.notes.Note.{Note}
 use Rattle.rich_meaning.specs.declared.notes.Place.TheVariants.{FuncType, FuncAt}
 use Rattle.rich_meaning.specs.declared.rules.Rule.{Rule}
 use Rattle.rich_meaning.specs.declared.rules.Rule.TheVariants.{NotYetBuilt}
-use Rattle.rich_meaning.specs.Derivations.{Derives, IsTyped}
 use Rattle.rich_meaning.specs.Table.{unr_i64}
 use Rattle.rich_meaning.specs.Violations.{Violation, FirstViolation, BreaksAt}
 use Rattle.rw_program.specs.declared.checked.CheckError.{CheckError}

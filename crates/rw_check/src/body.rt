@@ -58,7 +58,12 @@ fn given_by(instr: &Instr) -> u64
 
 /// Puts a note at the end: of the point before an instruction that takes so many numbers of 64 bits,
 /// where so many lie beneath them.
-fn push_note(alloc: Global, notes: &mut List<Note>, beneath: u64, taken: u64) -> Result<(), AllocError>
+fn push_note(
+    alloc: Global,
+    notes: &mut List<Note>,
+    beneath: u64,
+    taken: u64,
+) -> Result<(), AllocError>
     ensures { OnOk result (notes.new ≡ notes.old ++ record { binders = []; beneath = beneath; taken = i64s taken; local = None } ∷ []) }
 {
     notes.push(Note {

@@ -1,3 +1,4 @@
 pub mod Modules
 pub mod Programs
 pub mod LonePrograms
+pub mod Linking

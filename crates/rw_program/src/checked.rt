@@ -93,8 +93,9 @@ impl Checked {
 
     /// The module, and the notes of all bodies.
     pub fn into_parts(self) -> (Module, List<List<Note>>)
-        ensures value { result ≡ (self.source, self.notes) }
-        ensures typed { IsTyped result.0 result.1 }
+        ensures source { result.0 ≡ self.source }
+        ensures notes { result.1 ≡ self.notes }
+        ensures typed { IsTyped self.source self.notes }
     {
         let Checked { source, notes } = self;
         (source, notes)

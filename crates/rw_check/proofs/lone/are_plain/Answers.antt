@@ -1,6 +1,5 @@
 -- An instruction that is not plain stands in no list of plain ones.
-use Rattle.std.proofs.Common.{◌≡◌, Bool, true, false, IsTrue, subst, sym, refl}
-use Rattle.rw_types.specs.LoneMain.{IsPlain}
+use Rattle.std.proofs.Common.{IsTrue, subst, sym, refl}
 use Rattle.rw_check.proofs.PlainLists.{plain_at, plain_more}
 use Rattle.rw_check.proofs.lone.are_plain.Goals as goal
 

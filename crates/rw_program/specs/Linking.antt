@@ -1,0 +1,38 @@
+-- The linked program of one file without imports. This project's own.
+use Rattle.std.specs.Prelude.{ℕ, List, [], ◌∷◌, Option, Some, None, length, drop, codes, find}
+use Rattle.std.specs.Option.{option_map}
+use Rattle.std.specs.Str.{bytes_eq}
+use Rattle.rw_types.specs.declared.modules.ExportDef.{ExportDef}
+use Rattle.rw_types.specs.declared.modules.FuncDef.{FuncDef}
+use Rattle.rw_types.specs.declared.modules.GlobalDef.{GlobalDef}
+use Rattle.rich_meaning.specs.declared.notes.Note.{Note}
+use Rattle.rw_program.specs.declared.linked.LinkedFunc.{LinkedFunc}
+use Rattle.rw_program.specs.declared.linked.LinkedGlobal.{LinkedGlobal}
+use Rattle.rw_program.specs.Modules.{TypedModule}
+use Rattle.rw_program.specs.Programs.{Program}
+
+-- the functions of the file with this number, with their notes
+abbrev pub linked_funcs : ℕ → List FuncDef → List (List Note) → List LinkedFunc
+linked_funcs file (f ∷ fs) (notes ∷ rest) = record { file = file; ty = f.ty; locals = f.locals; body = f.body; notes = notes } ∷ linked_funcs file fs rest
+linked_funcs file _ _ = []
+
+-- the globals of the file with this number, with their notes
+abbrev pub linked_globals : ℕ → List GlobalDef → List (List Note) → List LinkedGlobal
+linked_globals file (g ∷ gs) (notes ∷ rest) = record { file = file; mutable = g.mutable; ty = g.ty; body = g.body; notes = notes } ∷ linked_globals file gs rest
+linked_globals file _ _ = []
+
+-- the number of the function that is exported by this name
+abbrev pub exported : List ℕ → List ExportDef → Option ℕ
+exported name exports = option_map (λ e. e.func) (find (λ e. bytes_eq e.name name) exports)
+
+-- the program of these functions and globals, where there is a main function
+abbrev pub program_with : List LinkedFunc → List LinkedGlobal → Option ℕ → Option Program
+program_with funcs globals (Some main) = Some (record { funcs = funcs; globals = globals; main = main })
+program_with funcs globals None = None
+
+-- the program of the first file alone, whose numbers stay as they are; none where it exports no `main`
+abbrev pub program_of : TypedModule → Option Program
+program_of file = program_with
+  (linked_funcs 0 file.source.funcs file.notes)
+  (linked_globals 0 file.source.globals (drop (length file.source.funcs) file.notes))
+  (exported (codes "main") file.source.exports)
