@@ -1,5 +1,5 @@
 -- The tokens of Rich texts, and how bytes spell them. This project's own.
-use Rattle.std.specs.Prelude.{ℕ, ◌≡◌, ◌≤◌, ◌<◌, ◌==◌, ◌||◌, Bool, false, not, List, [], ◌∷◌, ◌++◌, IsTrue, ⊤, codes, length, MatchBool}
+use Rattle.std.specs.Prelude.{ℕ, ◌≡◌, ◌<◌, ◌==◌, ◌||◌, Bool, false, not, List, [], ◌∷◌, ◌++◌, IsTrue, ⊤, codes, length, MatchBool}
 use Rattle.std.specs.List.{list_all}
 use Rattle.std.specs.Char.{is_ascii_alphanumeric}
 use Rattle.rw_types.specs.Names.{IsName}

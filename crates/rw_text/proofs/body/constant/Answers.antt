@@ -16,16 +16,16 @@ returns-then-not-accept-clause-none c = λ i rest h.
 pub returns-in_err-word-clause-none : goal.returns-in_err-word-clause-none
 returns-in_err-word-clause-none c =
     let other : (i : Instr) (rest : List ℕ) → InstrLeads Open c.args.tokens.now i rest → ⊥ = λ i rest h.
-      (let r = const_rest c.args.tokens.now c.accept.new.self rest i (accepted _ _ _ _ (const_word ∷ []) i64_const_spelled c.if-not-accept.false c.accept.ensures) h in
-      c.in_err-word.ensures.none r.word r.two r.begins) in
+    (let r = const_rest c.args.tokens.now c.accept.new.self rest i (accepted _ _ _ _ (const_word ∷ []) i64_const_spelled c.if-not-accept.false c.accept.ensures) h in
+    c.in_err-word.ensures.none r.word r.two r.begins) in
     none_holds _ _ other
 
 pub returns-in_err-bits-clause-none : goal.returns-in_err-bits-clause-none
 returns-in_err-bits-clause-none c =
     let other : (i : Instr) (rest : List ℕ) → InstrLeads Open c.args.tokens.now i rest → ⊥ = λ i rest h.
-      (let r = const_rest c.args.tokens.now c.accept.new.self rest i (accepted _ _ _ _ (const_word ∷ []) i64_const_spelled c.if-not-accept.false c.accept.ensures) h in
-      let value = const_value c.accept.new.self c.word.new.self rest c.in_ok-word.word r c.in_ok-word.ensures.found in
-      c.in_err-bits.ensures.none r.number (subst (λ (w : List ℕ). IsI64 w r.number) (sym c.as_slice.ensures) value)) in
+    (let r = const_rest c.args.tokens.now c.accept.new.self rest i (accepted _ _ _ _ (const_word ∷ []) i64_const_spelled c.if-not-accept.false c.accept.ensures) h in
+    let value = const_value c.accept.new.self c.word.new.self rest c.in_ok-word.word r c.in_ok-word.ensures.found in
+    c.in_err-bits.ensures.none r.number (subst (λ (w : List ℕ). IsI64 w r.number) (sym c.as_slice.ensures) value)) in
     none_holds _ _ other
 
 pub returns-then-not-accept-2-clause-none : goal.returns-then-not-accept-2-clause-none

@@ -1,5 +1,5 @@
 -- The tokens of the text that are left are those that must come next; each step takes one of both.
-use Rattle.std.proofs.Common.{sym, ◌∙◌, true, false}
+use Rattle.std.proofs.Common.{sym, ◌∙◌}
 use Rattle.std.proofs.lemmas.Bool.{false≢true}
 use Rattle.rw_text.proofs.TokenLemmas.{begins_one}
 use Rattle.rw_text.proofs.Leading.{still_more, all_came, others_came}
