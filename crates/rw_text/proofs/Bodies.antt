@@ -4,8 +4,9 @@ use Rattle.std.proofs.lemmas.List.{append-nil}
 use Rattle.rw_types.specs.declared.instrs.Instr.{Instr}
 use Rattle.rw_text.specs.declared.tokens.Token.{Token}
 use Rattle.rw_text.specs.declared.tokens.Token.TheVariants.{Close}
-use Rattle.rw_text.specs.Tokens.{Begins, BeginsNone, Leads}
-use Rattle.rw_text.specs.Programs.{IsInstr, IsBody, InstrLeads, BodyLeads, BodyLeadsNone}
+use Rattle.rw_text.specs.Tokens.{Begins, Leads}
+use Rattle.rw_text.specs.Programs.{IsInstr, IsBody}
+use Rattle.rw_text.specs.Found.{BeginsNone, BodyLeads, BodyLeadsNone, InstrLeads}
 use Rattle.rw_text.proofs.TokenLemmas.{begins_one, begins_shorter}
 use Rattle.rw_text.proofs.Leading.{leads_join, leads_split}
 use Rattle.rw_text.proofs.Instrs.{instr_some, instr_no_close, instr_one}

@@ -6,8 +6,9 @@ use Rattle.rw_types.specs.declared.numbers.NumName.TheVariants.{I64Add}
 use Rattle.rw_text.specs.declared.tokens.Token.{Token}
 use Rattle.rw_text.specs.declared.tokens.Token.TheVariants.{Open, Close, Word, Text}
 use Rattle.rw_text.specs.Numbers.{IsI64}
-use Rattle.rw_text.specs.Tokens.{Begins, Leads, SpellsTokens, Accepts}
-use Rattle.rw_text.specs.Programs.{IsInstr, InstrLeads}
+use Rattle.rw_text.specs.Tokens.{Begins, Leads, SpellsTokens}
+use Rattle.rw_text.specs.Programs.{IsInstr}
+use Rattle.rw_text.specs.Found.{Accepts, InstrLeads}
 use Rattle.rw_text.proofs.Digits.{i64_one}
 use Rattle.rw_text.proofs.TokenLemmas.{begins_one}
 use Rattle.rw_text.proofs.Leading.{leads_split, leads_one}

@@ -11,7 +11,8 @@ use Rattle.std.proofs.Math.Seq.{take-length}
 use Rattle.rw_types.specs.Names.{IsName, is_name_byte}
 use Rattle.rw_text.specs.declared.tokens.Token.{Token}
 use Rattle.rw_text.specs.declared.tokens.Token.TheVariants.{Open, Close, Word, Text}
-use Rattle.rw_text.specs.Tokens.{is_blank, is_word_byte, is_mark, is_unquoted, Ends, IsToken, spelling, Starts, StartsNone, Begins, BeginsNone}
+use Rattle.rw_text.specs.Tokens.{is_blank, is_word_byte, Ends, IsToken, spelling, Starts, Begins}
+use Rattle.rw_text.specs.Found.{BeginsNone, StartsNone, is_mark, is_unquoted}
 use Rattle.rw_text.proofs.Runs.{run_passes, run_ends, prefix_len-append, front_of, back_of, list_all_more_pass}
 
 pub word_byte_no_blank : (b : ℕ) → is_word_byte b ≡ true → is_blank b ≡ false

@@ -10,7 +10,8 @@ use Rattle.rw_text.specs.declared.tokens.Token.{Token}
 use Rattle.rw_text.specs.declared.tokens.Token.TheVariants.{Close}
 use Rattle.rw_text.specs.Numbers.{IsI64}
 use Rattle.rw_text.specs.Tokens.{is_blank, Leads}
-use Rattle.rw_text.specs.Programs.{head, tail, IsInstr, IsBody, InstrLeads, BodyLeads, BodyLeadsNone}
+use Rattle.rw_text.specs.Programs.{head, tail, IsInstr, IsBody}
+use Rattle.rw_text.specs.Found.{BodyLeads, BodyLeadsNone, InstrLeads}
 use Rattle.rw_text.specs.Spells.{Spells, SpellsNone, OneModule}
 use Rattle.rw_text.proofs.TokenLemmas.{begins_one}
 use Rattle.rw_text.proofs.Leading.{leads_join, leads_split, leads_one}

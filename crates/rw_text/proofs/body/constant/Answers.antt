@@ -3,7 +3,7 @@ use Rattle.std.proofs.Common.{sym, subst, List, ℕ, [], ◌∷◌}
 use Rattle.rw_types.specs.declared.instrs.Instr.{Instr}
 use Rattle.rw_text.specs.declared.tokens.Token.TheVariants.{Open, Close}
 use Rattle.rw_text.specs.Numbers.{IsI64}
-use Rattle.rw_text.specs.Programs.{InstrLeads}
+use Rattle.rw_text.specs.Found.{InstrLeads}
 use Rattle.rw_text.proofs.Digits.{none_holds}
 use Rattle.rw_text.proofs.Instrs.{const_word, const_found, const_refused, const_rest, const_value, const_close, accepted, refused}
 use Rattle.rw_text.proofs.Literals.{i64_const_spelled, close_spelled}
