@@ -1,11 +1,12 @@
 -- Bodies, read one instruction after another.
-use Rattle.std.proofs.Common.{◌≡◌, ℕ, ◌<◌, ◌≤◌, ◌+◌, List, [], ◌∷◌, ◌++◌, length, refl, sym, ◌∙◌, ap, subst, arith, append_assoc, length-append}
+use Rattle.std.proofs.Common.{◌≡◌, ℕ, ◌≤◌, List, [], ◌∷◌, ◌++◌, length, refl, sym, ◌∙◌, ap, subst, arith, append_assoc, length-append}
 use Rattle.std.proofs.lemmas.List.{append-nil}
 use Rattle.rw_types.specs.declared.instrs.Instr.{Instr}
 use Rattle.rw_text.specs.declared.tokens.Token.{Token}
-use Rattle.rw_text.specs.declared.tokens.Token.TheVariants.{Open, Close, Word, Text}
-use Rattle.rw_text.specs.Tokens.{Begins, BeginsNone, Leads}
-use Rattle.rw_text.specs.Programs.{IsInstr, IsBody, InstrLeads, BodyLeads, BodyLeadsNone}
+use Rattle.rw_text.specs.declared.tokens.Token.TheVariants.{Close}
+use Rattle.rw_text.specs.Tokens.{Begins, Leads}
+use Rattle.rw_text.specs.Programs.{IsInstr, IsBody}
+use Rattle.rw_text.specs.Found.{BeginsNone, BodyLeads, BodyLeadsNone, InstrLeads}
 use Rattle.rw_text.proofs.TokenLemmas.{begins_one, begins_shorter}
 use Rattle.rw_text.proofs.Leading.{leads_join, leads_split}
 use Rattle.rw_text.proofs.Instrs.{instr_some, instr_no_close, instr_one}
@@ -63,9 +64,9 @@ pub sofar_more : (old now : List ℕ) (body : List Instr) (t : Token) (mid next 
 sofar_more old now body t mid next i sofar begins other first = record {
   forth = λ more rest h. subst (λ (b : List Instr). BodyLeads old b rest) (sym (append_assoc body (i ∷ []) more)) (sofar.forth (i ∷ more) rest (body_more now t mid next i more rest begins first h));
   back = λ all rest h.
-    (let before = sofar.back all rest h in
-    let after = back_more now t mid next i before.0 rest begins other first (body_start now before.0 rest before.2) in
-    (after.0, before.1 ∙ ap (λ (b : List Instr). body ++ b) after.1 ∙ sym (append_assoc body (i ∷ []) after.0), after.2));
+      (let before = sofar.back all rest h in
+      let after = back_more now t mid next i before.0 rest begins other first (body_start now before.0 rest before.2) in
+      (after.0, before.1 ∙ ap (λ (b : List Instr). body ++ b) after.1 ∙ sym (append_assoc body (i ∷ []) after.0), after.2));
 }
 
 pub sofar_end : (old now : List ℕ) (body : List Instr) (rest : List ℕ) → SoFar old now body → Begins now Close rest → BodyLeads old body rest

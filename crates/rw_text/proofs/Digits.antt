@@ -1,5 +1,5 @@
 -- The value of decimal digits, read one after another.
-use Rattle.std.proofs.Common.{◌≡◌, ℕ, ◌<◌, ◌≤◌, ◌+◌, ◌-◌, ◌*◌, ◌^◌, suc, List, [], ◌∷◌, Bool, true, false, length, take, drop, get_or, refl, sym, ◌∙◌, ap, subst, inl, inr, arith, drop-cons, Option, Some, None, IfNone}
+use Rattle.std.proofs.Common.{◌≡◌, ℕ, ◌<◌, ◌≤◌, ◌+◌, ◌-◌, ◌*◌, ◌^◌, suc, List, [], ◌∷◌, true, length, take, drop, get_or, refl, sym, ◌∙◌, ap, subst, inl, inr, arith, drop-cons, Option, Some, None, IfNone}
 use Rattle.std.specs.Char.{is_ascii_digit}
 use Rattle.std.specs.List.{list_all}
 use Rattle.std.proofs.lemmas.Bool.{and_parts, false≢true}
@@ -35,8 +35,8 @@ minus_none [] o some minus none = absurd (omega arith)
 minus_none (w ∷ ws) (Some x) some minus none = tt
 minus_none (w ∷ ws) None some minus none = λ n number.
     elim number [
-      inl natural ↦ minus_no_digits ws w minus natural.0.0
-    | inr negative ↦ none n (subst (λ (ds : List ℕ). IsNegative ds n) (sym (tail_is w ws negative.0 negative.1)) negative.2)
+      | inl natural ↦ minus_no_digits ws w minus natural.0.0
+      | inr negative ↦ none n (subst (λ (ds : List ℕ). IsNegative ds n) (sym (tail_is w ws negative.0 negative.1)) negative.2)
     ]
 
 minus_or_natural : (word digits : List ℕ) → word ≡ 45 ∷ digits → AreDigits word → ⊥

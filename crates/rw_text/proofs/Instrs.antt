@@ -1,17 +1,17 @@
 -- Instructions, from their tokens: the first token and the bytes after it tell the instruction.
-use Rattle.std.proofs.Common.{◌≡◌, ℕ, ◌⊎◌, ◌≤◌, List, [], ◌∷◌, ◌++◌, Bool, true, false, codes, refl, sym, ◌∙◌, ap, subst, inl, inr, arith, append_assoc}
+use Rattle.std.proofs.Common.{◌≡◌, ℕ, List, [], ◌∷◌, ◌++◌, Bool, true, false, codes, refl, sym, ◌∙◌, ap, subst}
 use Rattle.std.proofs.lemmas.Bool.{MatchBool-at_true, MatchBool-at_false}
 use Rattle.rw_types.specs.declared.instrs.Instr.{Instr, I64Const, Num, Print, Drop}
 use Rattle.rw_types.specs.declared.numbers.NumName.TheVariants.{I64Add}
 use Rattle.rw_text.specs.declared.tokens.Token.{Token}
 use Rattle.rw_text.specs.declared.tokens.Token.TheVariants.{Open, Close, Word, Text}
 use Rattle.rw_text.specs.Numbers.{IsI64}
-use Rattle.rw_text.specs.Tokens.{Begins, BeginsNone, Leads, SpellsTokens, Accepts}
-use Rattle.rw_text.specs.Programs.{IsInstr, InstrLeads}
+use Rattle.rw_text.specs.Tokens.{Begins, Leads, SpellsTokens}
+use Rattle.rw_text.specs.Programs.{IsInstr}
+use Rattle.rw_text.specs.Found.{Accepts, InstrLeads}
 use Rattle.rw_text.proofs.Digits.{i64_one}
 use Rattle.rw_text.proofs.TokenLemmas.{begins_one}
 use Rattle.rw_text.proofs.Leading.{leads_split, leads_one}
-use Rattle.rw_text.proofs.Literals.{i64_const_spelled, close_spelled}
 
 pub accepted : (text old new : List ℕ) (came : Bool) (ts : List Token) → SpellsTokens text ts → came ≡ true → Accepts text old new came → Leads old ts new
 accepted text old new came ts spelled came_true told = MatchBool-at_true _ _ came_true (told ts spelled)
@@ -138,9 +138,10 @@ constant_one bytes i j a b first second =
     let parts = constant_parts i first.more first.instr in
     let leads = subst (λ (ts : List Token). Leads bytes ts a) parts.tokens first.leads in
     let r = const_rest bytes leads.0 b j (leads.0, leads.1, refl) second in
-    let value = const_value leads.0 leads.2.0 b parts.word r leads.2.1 in
-    (parts.is ∙ ap I64Const (i64_one parts.word parts.number r.number parts.value value) ∙ sym r.is,
-    leads_one leads.2.0 (Close ∷ []) a b leads.2.2 (const_close leads.0 leads.2.0 b parts.word r leads.2.1))
+    let value = const_value leads.0 leads.2.0 b parts.word r leads.2.1 in (
+      parts.is ∙ ap I64Const (i64_one parts.word parts.number r.number parts.value value) ∙ sym r.is,
+      leads_one leads.2.0 (Close ∷ []) a b leads.2.2 (const_close leads.0 leads.2.0 b parts.word r leads.2.1),
+    )
 
 word_one : (bytes w : List ℕ) (i j : Instr) (a b : List ℕ) → InstrLeads (Word w) bytes i a → InstrLeads (Word w) bytes j b → (i ≡ j) × (a ≡ b)
 word_one bytes w i j a b first second =

@@ -1,8 +1,9 @@
 -- Lists of tokens that bytes begin with.
-use Rattle.std.proofs.Common.{◌≡◌, ℕ, List, [], ◌∷◌, ◌++◌, Bool, true, false, refl, sym, ◌∙◌, ap, subst, IsTrue}
+use Rattle.std.proofs.Common.{◌≡◌, ℕ, List, [], ◌∷◌, ◌++◌, true, false, refl, sym, ◌∙◌, ap, subst}
 use Rattle.std.specs.List.{list_all}
 use Rattle.rw_text.specs.declared.tokens.Token.{Token}
-use Rattle.rw_text.specs.Tokens.{is_blank, Begins, BeginsNone, Leads, SpellsTokens, Accepts}
+use Rattle.rw_text.specs.Tokens.{is_blank, Begins, Leads, SpellsTokens}
+use Rattle.rw_text.specs.Found.{Accepts, BeginsNone}
 use Rattle.rw_text.proofs.TokenLemmas.{begins_one, blank_none}
 
 pub leads_join : (bytes : List ℕ) (ts us : List Token) (mid rest : List ℕ) → Leads bytes ts mid → Leads mid us rest → Leads bytes (ts ++ us) rest

@@ -1,11 +1,11 @@
 -- The tokens of the texts that the code names: each text is spelled out one token after another.
-use Rattle.std.proofs.Common.{◌≡◌, ℕ, ◌<◌, List, [], ◌∷◌, ◌++◌, Bool, true, length, codes, lit≤, refl, sym, ◌∙◌, ap, ◌&&◌, nat_lt, append_assoc}
+use Rattle.std.proofs.Common.{◌≡◌, ℕ, List, [], ◌∷◌, ◌++◌, true, length, codes, lit≤, refl, sym, ◌∙◌, ap, ◌&&◌, nat_lt}
 use Rattle.std.specs.List.{list_all}
-use Rattle.std.proofs.lemmas.Bool.{and_parts, and_from, ltb-true}
+use Rattle.std.proofs.lemmas.Bool.{and_parts, ltb-true}
 use Rattle.rw_types.specs.Names.{IsName}
 use Rattle.rw_text.specs.declared.tokens.Token.{Token}
 use Rattle.rw_text.specs.declared.tokens.Token.TheVariants.{Open, Close, Word, Text}
-use Rattle.rw_text.specs.Tokens.{is_blank, is_word_byte, Ends, Begins, Leads, SpellsTokens}
+use Rattle.rw_text.specs.Tokens.{is_blank, is_word_byte, Ends, SpellsTokens}
 use Rattle.rw_text.specs.Programs.{head, tail}
 use Rattle.rw_text.proofs.TokenLemmas.{quoted-append}
 

@@ -1,17 +1,18 @@
 -- What the code that takes a token off finds, from the run of bytes that it stops at; and that bytes
 -- begin with one token at most.
-use Rattle.std.proofs.Common.{◌≡◌, ℕ, ◌<◌, ◌≤◌, ◌+◌, ◌-◌, ◌⊎◌, zero, suc, List, [], ◌∷◌, ◌++◌, length, take, drop, Bool, true, false, cond, ◌&&◌, ◌||◌, not, refl, sym, ◌∙◌, ap, subst, arith, append_assoc, length-append, nat_lt, nat_eq}
+use Rattle.std.proofs.Common.{◌≡◌, ℕ, ◌<◌, ◌≤◌, ◌-◌, List, [], ◌∷◌, ◌++◌, length, take, drop, true, false, refl, sym, ◌∙◌, ap, subst, arith, append_assoc, length-append, nat_eq}
 use Rattle.std.specs.List.{list_all, prefix_len}
-use Rattle.std.proofs.lemmas.Bool.{and_parts, and_from, cases_Bool, false≢true, true≢false, eqb-true, eqb-false, not-false}
+use Rattle.std.proofs.lemmas.Bool.{and_parts, false≢true, true≢false, eqb-true, eqb-false, not-false}
 use Rattle.std.proofs.lemmas.Bool.Decides.{nat_tests}
 use Rattle.std.proofs.lemmas.List.{take-append-drop}
 use Rattle.std.proofs.lemmas.List.Folds.{list_all-append}
 use Rattle.std.proofs.Math.Numerals.{sub-one}
-use Rattle.std.proofs.Math.Seq.{take-length, take-append_seam, drop-append_seam}
+use Rattle.std.proofs.Math.Seq.{take-length}
 use Rattle.rw_types.specs.Names.{IsName, is_name_byte}
 use Rattle.rw_text.specs.declared.tokens.Token.{Token}
 use Rattle.rw_text.specs.declared.tokens.Token.TheVariants.{Open, Close, Word, Text}
-use Rattle.rw_text.specs.Tokens.{is_blank, is_word_byte, is_mark, is_unquoted, Ends, IsToken, MayFollow, spelling, Starts, StartsNone, Begins, BeginsNone}
+use Rattle.rw_text.specs.Tokens.{is_blank, is_word_byte, Ends, IsToken, spelling, Starts, Begins}
+use Rattle.rw_text.specs.Found.{BeginsNone, StartsNone, is_mark, is_unquoted}
 use Rattle.rw_text.proofs.Runs.{run_passes, run_ends, prefix_len-append, front_of, back_of, list_all_more_pass}
 
 pub word_byte_no_blank : (b : ℕ) → is_word_byte b ≡ true → is_blank b ≡ false

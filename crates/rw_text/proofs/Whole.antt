@@ -1,5 +1,5 @@
 -- A text as a whole: its head, its body, its tail and blanks, which are found one after another.
-use Rattle.std.proofs.Common.{◌≡◌, ℕ, ◌<◌, ◌≤◌, ◌+◌, List, [], ◌∷◌, ◌++◌, Bool, true, false, length, ◌^◌, refl, sym, ◌∙◌, ap, subst, inl, inr, arith, append_assoc}
+use Rattle.std.proofs.Common.{◌≡◌, ℕ, ◌<◌, ◌≤◌, List, [], ◌∷◌, ◌++◌, true, false, length, ◌^◌, refl, sym, ◌∙◌, ap, subst, inl, inr, arith, append_assoc}
 use Rattle.std.specs.List.{list_all}
 use Rattle.std.proofs.lemmas.Bool.{false≢true}
 use Rattle.rw_types.specs.declared.instrs.Instr.{Instr, I64Const, Num, Print, Drop}
@@ -7,10 +7,11 @@ use Rattle.rw_types.specs.declared.modules.Module.{Module}
 use Rattle.rw_types.specs.declared.numbers.NumName.TheVariants.{I64Add}
 use Rattle.rw_types.specs.LoneMain.{IsPlain, ArePlain, IsLoneMain, lone_main}
 use Rattle.rw_text.specs.declared.tokens.Token.{Token}
-use Rattle.rw_text.specs.declared.tokens.Token.TheVariants.{Open, Close, Word, Text}
+use Rattle.rw_text.specs.declared.tokens.Token.TheVariants.{Close}
 use Rattle.rw_text.specs.Numbers.{IsI64}
-use Rattle.rw_text.specs.Tokens.{is_blank, Begins, Leads, SpellsTokens}
-use Rattle.rw_text.specs.Programs.{head, tail, IsInstr, IsBody, IsProgram, InstrLeads, BodyLeads, BodyLeadsNone}
+use Rattle.rw_text.specs.Tokens.{is_blank, Leads}
+use Rattle.rw_text.specs.Programs.{head, tail, IsInstr, IsBody}
+use Rattle.rw_text.specs.Found.{BodyLeads, BodyLeadsNone, InstrLeads}
 use Rattle.rw_text.specs.Spells.{Spells, SpellsNone, OneModule}
 use Rattle.rw_text.proofs.TokenLemmas.{begins_one}
 use Rattle.rw_text.proofs.Leading.{leads_join, leads_split, leads_one}
@@ -38,8 +39,16 @@ parts_of bytes m s =
     let more = subst (λ (ts : List Token). Leads first.0 ts s.1.0) (sym (append_assoc p.code (Close ∷ []) tail)) first.2 in
     let middle = leads_split first.0 (p.code ++ Close ∷ []) tail s.1.0 more in
     record {
-      body = p.body; is = p.is; short = p.short; one = first.0; two = middle.0; rest = s.1.0;
-      first = first.1; middle = record { code = p.code; instrs = p.instrs; leads = middle.1 }; last = middle.2; blank = s.1.2;
+      body = p.body;
+      is = p.is;
+      short = p.short;
+      one = first.0;
+      two = middle.0;
+      rest = s.1.0;
+      first = first.1;
+      middle = record { code = p.code; instrs = p.instrs; leads = middle.1 };
+      last = middle.2;
+      blank = s.1.2;
     }
 
 pub spells_from : (bytes one two rest : List ℕ) (body : List Instr) → Leads bytes head one → BodyLeads one body two → length body ≤ 1000 → Leads two tail rest → list_all is_blank rest ≡ true → Spells bytes (lone_main body)
@@ -77,9 +86,9 @@ body_one bytes [] ys r s a b = body_same bytes [] ys r s (body_start bytes [] r 
 body_one bytes (x ∷ xs) ys r s a b =
     body_same bytes (x ∷ xs) ys r s (body_start bytes (x ∷ xs) r a) (body_start bytes ys s b)
     (λ i more c d zs e h h'.
-      let same = tail_instrs x i xs more e in
-      let both = body_one c xs zs r s (subst (λ (ws : List Instr). BodyLeads c ws r) (sym same) h) h' in
-      (sym same ∙ both.0, both.1))
+    let same = tail_instrs x i xs more e in
+    let both = body_one c xs zs r s (subst (λ (ws : List Instr). BodyLeads c ws r) (sym same) h) h' in
+    (sym same ∙ both.0, both.1))
 
 pub no_tail : (bytes one two : List ℕ) (body : List Instr) → Leads bytes head one → BodyLeads one body two → ((rest : List ℕ) → Leads two tail rest → ⊥) → SpellsNone bytes
 no_tail bytes one two body first middle other m s =

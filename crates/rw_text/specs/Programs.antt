@@ -8,7 +8,6 @@ use Rattle.rw_types.specs.LoneMain.{lone_main}
 use Rattle.rw_text.specs.declared.tokens.Token.{Token}
 use Rattle.rw_text.specs.declared.tokens.Token.TheVariants.{Open, Close, Word, Text}
 use Rattle.rw_text.specs.Numbers.{IsI64}
-use Rattle.rw_text.specs.Tokens.{Leads}
 
 -- `(module 1 (func (fun () () ((unr i64))) (locals)`
 abbrev pub head : List Token
@@ -42,19 +41,3 @@ pub record IsProgram (ts : List Token) (m : Module) : Type 0 where
   pub instrs : IsBody body code
   pub short : length body ≤ 1000
   pub tokens : ts ≡ head ++ (code ++ Close ∷ tail)
-
--- bytes that begin with what follows the token `first` in the instruction, and go on with `rest`
-pub record InstrLeads (first : Token) (bytes : List ℕ) (i : Instr) (rest : List ℕ) : Type 0 where
-  pub more : List Token
-  pub instr : IsInstr i (first ∷ more)
-  pub leads : Leads bytes more rest
-
--- bytes that begin with these instructions and a `)`, and go on with `rest`
-pub record BodyLeads (bytes : List ℕ) (body : List Instr) (rest : List ℕ) : Type 0 where
-  pub code : List Token
-  pub instrs : IsBody body code
-  pub leads : Leads bytes (code ++ Close ∷ []) rest
-
--- no body of at most 1,000 instructions comes first
-abbrev pub BodyLeadsNone : List ℕ → Type 0
-BodyLeadsNone bytes = (body : List Instr) (rest : List ℕ) → BodyLeads bytes body rest → length body ≤ 1000 → ⊥

@@ -2,7 +2,8 @@ ghost use Rattle.std.specs.Prelude.{ℕ, ◌≡◌, ◌≤◌, [], ◌∷◌, Li
 ghost use Rattle.rw_types.specs.declared.instrs.Instr.{Instr};
 ghost use Rattle.rw_text.specs.declared.tokens.Token.{Token};
 ghost use Rattle.rw_text.specs.declared.tokens.Token.TheVariants.{Open, Word};
-ghost use Rattle.rw_text.specs.Programs.{BodyLeads, BodyLeadsNone, InstrLeads, IsInstr};
+ghost use Rattle.rw_text.specs.Programs.{IsInstr};
+ghost use Rattle.rw_text.specs.Found.{BodyLeads, BodyLeadsNone, InstrLeads};
 
 use crate::integers::i64_bits;
 use crate::tokens::{Token, Tokens};

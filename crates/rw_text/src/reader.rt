@@ -117,17 +117,4 @@ fn main_name(alloc: Global) -> Result<Name, AllocError>
 }
 
 #[cfg(test)]
-mod tests {
-    use super::*;
-    use std::test::Fail;
-
-    #[test]
-    fn reads(rt: HostRuntime) -> Result<(), Fail> {
-        let module = read(
-            rt.alloc(),
-            b"(module 1 (func (fun () () ((unr i64))) (locals) (i64.const -64)) (export \"main\" 0))",
-        )?;
-        assert_eq!(rt; module.funcs.len(), 1);
-        Ok(())
-    }
-}
+mod tests;

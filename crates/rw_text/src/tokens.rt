@@ -2,7 +2,8 @@ ghost use Rattle.std.specs.Prelude.{ℕ, ◌≡◌, ◌==◌, ◌↔◌, ◌≤�
 ghost use Rattle.std.specs.List.{list_all, prefix_len};
 ghost use Rattle.rw_types.specs.Names.{IsName};
 ghost use Rattle.rw_text.specs.declared.tokens.Token.TheVariants.{Word};
-ghost use Rattle.rw_text.specs.Tokens.{Accepts, Begins, BeginsNone, Ends, Starts, StartsNone, is_blank, is_mark, is_unquoted, is_word_byte};
+ghost use Rattle.rw_text.specs.Tokens.{Begins, Ends, Starts, is_blank, is_word_byte};
+ghost use Rattle.rw_text.specs.Found.{Accepts, BeginsNone, StartsNone, is_mark, is_unquoted};
 
 use rw_types::is_name;
 use std::marker::Model;
@@ -116,9 +117,11 @@ impl<'a> Tokens<'a> {
     {
         let mut wanted = Tokens::new(text);
         while let Some(token) = wanted.next() {
-            match self.next() {
-                Some(found) if found.same(&token) => {}
-                _ => return false,
+            let Some(found) = self.next() else {
+                return false;
+            };
+            if !found.same(&token) {
+                return false;
             }
         }
         true

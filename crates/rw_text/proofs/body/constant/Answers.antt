@@ -3,7 +3,7 @@ use Rattle.std.proofs.Common.{sym, subst, List, ℕ, [], ◌∷◌}
 use Rattle.rw_types.specs.declared.instrs.Instr.{Instr}
 use Rattle.rw_text.specs.declared.tokens.Token.TheVariants.{Open, Close}
 use Rattle.rw_text.specs.Numbers.{IsI64}
-use Rattle.rw_text.specs.Programs.{InstrLeads}
+use Rattle.rw_text.specs.Found.{InstrLeads}
 use Rattle.rw_text.proofs.Digits.{none_holds}
 use Rattle.rw_text.proofs.Instrs.{const_word, const_found, const_refused, const_rest, const_value, const_close, accepted, refused}
 use Rattle.rw_text.proofs.Literals.{i64_const_spelled, close_spelled}
@@ -16,16 +16,16 @@ returns-then-not-accept-clause-none c = λ i rest h.
 pub returns-in_err-word-clause-none : goal.returns-in_err-word-clause-none
 returns-in_err-word-clause-none c =
     let other : (i : Instr) (rest : List ℕ) → InstrLeads Open c.args.tokens.now i rest → ⊥ = λ i rest h.
-      (let r = const_rest c.args.tokens.now c.accept.new.self rest i (accepted _ _ _ _ (const_word ∷ []) i64_const_spelled c.if-not-accept.false c.accept.ensures) h in
-      c.in_err-word.ensures.none r.word r.two r.begins) in
+    (let r = const_rest c.args.tokens.now c.accept.new.self rest i (accepted _ _ _ _ (const_word ∷ []) i64_const_spelled c.if-not-accept.false c.accept.ensures) h in
+    c.in_err-word.ensures.none r.word r.two r.begins) in
     none_holds _ _ other
 
 pub returns-in_err-bits-clause-none : goal.returns-in_err-bits-clause-none
 returns-in_err-bits-clause-none c =
     let other : (i : Instr) (rest : List ℕ) → InstrLeads Open c.args.tokens.now i rest → ⊥ = λ i rest h.
-      (let r = const_rest c.args.tokens.now c.accept.new.self rest i (accepted _ _ _ _ (const_word ∷ []) i64_const_spelled c.if-not-accept.false c.accept.ensures) h in
-      let value = const_value c.accept.new.self c.word.new.self rest c.in_ok-word.word r c.in_ok-word.ensures.found in
-      c.in_err-bits.ensures.none r.number (subst (λ (w : List ℕ). IsI64 w r.number) (sym c.as_slice.ensures) value)) in
+    (let r = const_rest c.args.tokens.now c.accept.new.self rest i (accepted _ _ _ _ (const_word ∷ []) i64_const_spelled c.if-not-accept.false c.accept.ensures) h in
+    let value = const_value c.accept.new.self c.word.new.self rest c.in_ok-word.word r c.in_ok-word.ensures.found in
+    c.in_err-bits.ensures.none r.number (subst (λ (w : List ℕ). IsI64 w r.number) (sym c.as_slice.ensures) value)) in
     none_holds _ _ other
 
 pub returns-then-not-accept-2-clause-none : goal.returns-then-not-accept-2-clause-none

@@ -1,9 +1,7 @@
 -- The word of the arm, byte by byte.
 use Rattle.std.proofs.Common.{◌≡◌, ap, arith, rules, List, ℕ, [], ◌∷◌, codes}
 use Rattle.std.proofs.lemmas.Slice.Eq.{text_from_reads}
-use Rattle.rw_text.specs.declared.tokens.Token.{Token}
 use Rattle.rw_text.specs.declared.tokens.Token.TheVariants.{Word}
-use Rattle.rw_text.proofs.Literals.{head_spelled}
 use Rattle.rw_text.proofs.body.plain.Goals as goal
 
 pub returns-in-105-clause-found : goal.returns-in-105-clause-found

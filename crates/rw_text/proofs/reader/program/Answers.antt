@@ -1,7 +1,6 @@
 -- Head, body, tail and end are looked for in this order; the first that does not come refuses.
-use Rattle.std.proofs.Common.{◌≡◌, ◌≤◌, List, ℕ, length, sym, ◌∙◌, subst, codes}
+use Rattle.std.proofs.Common.{List, ℕ, sym, ◌∙◌, subst}
 use Rattle.rw_types.specs.declared.modules.Module.{Module}
-use Rattle.rw_types.specs.LoneMain.{IsLoneMain, lone_main}
 use Rattle.rw_text.specs.Tokens.{Leads}
 use Rattle.rw_text.specs.Programs.{head, tail}
 use Rattle.rw_text.specs.Spells.{Spells}
