@@ -13,6 +13,27 @@ use std::alloc::Global;
 use wasm_ast::{Code, Limits, List, WModule};
 use wasm_leb::push_u32;
 
+// The ids of the sections (WebAssembly Core Specification 1.0, 5.5.2 Sections); `CODE` is another.
+const TYPE: u8 = 1;
+
+const IMPORT: u8 = 2;
+
+const FUNCTION: u8 = 3;
+
+const TABLE: u8 = 4;
+
+const MEMORY: u8 = 5;
+
+const GLOBAL: u8 = 6;
+
+const EXPORT: u8 = 7;
+
+const START: u8 = 8;
+
+const ELEMENT: u8 = 9;
+
+const DATA: u8 = 11;
+
 /// The magic number and the version.
 const PREAMBLE: [u8; 8] = *b"\0asm\x01\0\0\0";
 
@@ -26,17 +47,17 @@ pub fn encode(alloc: Global, m: &WModule) -> Result<Vec<u8>, EncodeError>
     ensures long { (id : ℕ) → IsErrOf result (EncodeError.TooLong id) → IsFirstTooLong m.now id }
 {
     let mut out = Vec::from_slice(alloc, &PREAMBLE)?;
-    push_section(alloc, &mut out, 1, &m.types)?;
-    push_section(alloc, &mut out, 2, &m.imports)?;
-    push_section(alloc, &mut out, 3, &m.funcs)?;
+    push_section(alloc, &mut out, TYPE, &m.types)?;
+    push_section(alloc, &mut out, IMPORT, &m.imports)?;
+    push_section(alloc, &mut out, FUNCTION, &m.funcs)?;
     push_table_section(alloc, &mut out, &m.tables)?;
-    push_section(alloc, &mut out, 5, &m.memories)?;
-    push_section(alloc, &mut out, 6, &m.globals)?;
-    push_section(alloc, &mut out, 7, &m.exports)?;
+    push_section(alloc, &mut out, MEMORY, &m.memories)?;
+    push_section(alloc, &mut out, GLOBAL, &m.globals)?;
+    push_section(alloc, &mut out, EXPORT, &m.exports)?;
     push_start_section(alloc, &mut out, m.start)?;
-    push_section(alloc, &mut out, 9, &m.elements)?;
+    push_section(alloc, &mut out, ELEMENT, &m.elements)?;
     push_code_section(alloc, &mut out, &m.codes)?;
-    push_section(alloc, &mut out, 11, &m.segments)?;
+    push_section(alloc, &mut out, DATA, &m.segments)?;
     Ok(out)
 }
 
@@ -79,7 +100,7 @@ fn push_table_section(
     if tables.is_empty() {
         return Ok(());
     }
-    let section = open_section(alloc, out, 4)?;
+    let section = open_section(alloc, out, TABLE)?;
     match push_table_types(out, tables.as_slice()) {
         Ok(()) => section.close(out),
         Err(error) => {
@@ -103,7 +124,7 @@ fn push_start_section(
     let Some(function) = start else {
         return Ok(());
     };
-    let section = open_section(alloc, out, 8)?;
+    let section = open_section(alloc, out, START)?;
     match push_u32(out, function) {
         Ok(()) => section.close(out),
         Err(error) => {
