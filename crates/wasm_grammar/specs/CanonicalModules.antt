@@ -55,25 +55,31 @@ code_bytes c = unsigned_least 5 (length (function_bytes c)) ++ function_bytes c
 abbrev pub segment_bytes : DataSeg → List ℕ
 segment_bytes s = unsigned_least 5 s.memory ++ (constant_bytes s.offset ++ byte_vector_bytes s.bytes)
 
--- the contents of the sections, in the order of their ids
+-- the content of the type section
 abbrev pub type_content : WModule → List ℕ
 type_content m = vector_bytes func_type_bytes m.types
 
+-- the content of the import section
 abbrev pub import_content : WModule → List ℕ
 import_content m = vector_bytes import_bytes m.imports
 
+-- the content of the function section
 abbrev pub function_content : WModule → List ℕ
 function_content m = vector_bytes (unsigned_least 5) m.funcs
 
+-- the content of the table section
 abbrev pub table_content : WModule → List ℕ
 table_content m = vector_bytes table_type_bytes m.tables
 
+-- the content of the memory section
 abbrev pub memory_content : WModule → List ℕ
 memory_content m = vector_bytes limits_bytes m.memories
 
+-- the content of the global section
 abbrev pub global_content : WModule → List ℕ
 global_content m = vector_bytes global_bytes m.globals
 
+-- the content of the export section
 abbrev pub export_content : WModule → List ℕ
 export_content m = vector_bytes export_bytes m.exports
 
@@ -82,15 +88,19 @@ abbrev pub start_bytes : Option ℕ → List ℕ
 start_bytes None = []
 start_bytes (Some n) = unsigned_least 5 n
 
+-- the content of the start section
 abbrev pub start_content : WModule → List ℕ
 start_content m = start_bytes m.start
 
+-- the content of the element section
 abbrev pub element_content : WModule → List ℕ
 element_content m = vector_bytes element_bytes m.elements
 
+-- the content of the code section
 abbrev pub code_content : WModule → List ℕ
 code_content m = vector_bytes code_bytes m.codes
 
+-- the content of the data section
 abbrev pub data_content : WModule → List ℕ
 data_content m = vector_bytes segment_bytes m.segments
 
