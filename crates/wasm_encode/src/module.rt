@@ -1,8 +1,8 @@
-ghost use Rattle.std.specs.Prelude.{◌≡◌, ◌++◌, ℕ, ◌≤◌, ◌<◌, ◌^◌, IfOk, OnOk, IsErrOf, length};
+ghost use Rattle.std.specs.Prelude.{◌≡◌, ◌++◌, ℕ, IfOk, OnOk, IsErrOf};
 ghost use Rattle.wasm_grammar.specs.CanonicalTypes.{vector_bytes, table_type_bytes};
 ghost use Rattle.wasm_grammar.specs.CanonicalModules.{section_of, start_section, start_bytes, code_bytes, module_bytes};
 ghost use Rattle.wasm_grammar.specs.Nesting.{ModuleNestsAtMost, nesting_limit};
-ghost use Rattle.wasm_encode.specs.Contents.{EachContentFits, IsFirstTooLong};
+ghost use Rattle.wasm_encode.specs.Contents.{EachContentFits, IsFirstTooLong, TellsFit};
 
 use crate::entries::push_table_types;
 use crate::error::EncodeError;
@@ -70,8 +70,7 @@ fn push_section<T: Entry>(
     entries: &List<T>,
 ) -> Result<(), EncodeError>
     ensures ok { OnOk result (out.new.items ≡ out.old.items ++ section_of id entries.now (vector_bytes T.bytes entries.now)) }
-    ensures short { OnOk result (length (vector_bytes T.bytes entries.now) < 2 ^ 32) }
-    ensures cause { (j : ℕ) → IsErrOf result (EncodeError.TooLong j) → (j ≡ id) × (2 ^ 32 ≤ length (vector_bytes T.bytes entries.now)) }
+    ensures fit { TellsFit result id (vector_bytes T.bytes entries.now) }
 {
     if entries.is_empty() {
         return Ok(());
@@ -94,8 +93,7 @@ fn push_table_section(
     tables: &List<Limits>,
 ) -> Result<(), EncodeError>
     ensures ok { OnOk result (out.new.items ≡ out.old.items ++ section_of 4 tables.now (vector_bytes table_type_bytes tables.now)) }
-    ensures short { OnOk result (length (vector_bytes table_type_bytes tables.now) < 2 ^ 32) }
-    ensures cause { (j : ℕ) → IsErrOf result (EncodeError.TooLong j) → (j ≡ 4) × (2 ^ 32 ≤ length (vector_bytes table_type_bytes tables.now)) }
+    ensures fit { TellsFit result 4 (vector_bytes table_type_bytes tables.now) }
 {
     if tables.is_empty() {
         return Ok(());
@@ -118,8 +116,7 @@ fn push_start_section(
     start: Option<u32>,
 ) -> Result<(), EncodeError>
     ensures ok { OnOk result (out.new.items ≡ out.old.items ++ start_section start) }
-    ensures short { OnOk result (length (start_bytes start) < 2 ^ 32) }
-    ensures cause { (j : ℕ) → IsErrOf result (EncodeError.TooLong j) → (j ≡ 8) × (2 ^ 32 ≤ length (start_bytes start)) }
+    ensures fit { TellsFit result 8 (start_bytes start) }
 {
     let Some(function) = start else {
         return Ok(());
@@ -142,8 +139,7 @@ fn push_code_section(
     codes: &List<Code>,
 ) -> Result<(), EncodeError>
     ensures ok { OnOk result (out.new.items ≡ out.old.items ++ section_of 10 codes.now (vector_bytes code_bytes codes.now)) }
-    ensures short { OnOk result (length (vector_bytes code_bytes codes.now) < 2 ^ 32) }
-    ensures cause { (j : ℕ) → IsErrOf result (EncodeError.TooLong j) → (j ≡ 10) × (2 ^ 32 ≤ length (vector_bytes code_bytes codes.now)) }
+    ensures fit { TellsFit result 10 (vector_bytes code_bytes codes.now) }
 {
     if codes.is_empty() {
         return Ok(());
