@@ -1,5 +1,5 @@
 -- The first section that is too long, found by encoding the sections in order: what is known after each.
-use Rattle.std.proofs.Common.{◌≡◌, ◌∙◌, ap, List, ℕ, ◌+◌, ◌<◌, ◌≤◌, ◌^◌, [], length, sym, subst, arith, lit<, Err, IsErrOf, below_more, ◌⊎◌, inl, inr}
+use Rattle.std.proofs.Common.{◌≡◌, ◌∙◌, ap, List, ℕ, ◌+◌, ◌<◌, ◌≤◌, ◌^◌, [], length, sym, subst, arith, lit<, Err, IsErrOf, below_more, inl, inr}
 use Rattle.std.specs.Prelude.{Result, ◌==◌, if◌then◌else◌}
 use Rattle.std.specs.Result.{IsErrAnd}
 use Rattle.std.proofs.lemmas.Bool.{cases_lt, cond-false, ne_eqb}

@@ -32,7 +32,7 @@ pub fn block_type_byte(ty: Option<ValTy>) -> u8
     }
 }
 
-/// The byte that says whether a global may be written (5.3.6).
+/// The byte that says whether a global may be written (5.3.7).
 fn mutability_byte(mutable: bool) -> u8
     ensures { result ≡ mutability mutable }
 {

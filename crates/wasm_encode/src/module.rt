@@ -1,8 +1,8 @@
-ghost use Rattle.std.specs.Prelude.{◌≡◌, ◌++◌, ℕ, ◌≤◌, ◌<◌, ◌^◌, IfOk, OnOk, IsErrOf, length};
+ghost use Rattle.std.specs.Prelude.{◌≡◌, ◌++◌, ℕ, IfOk, OnOk, IsErrOf};
 ghost use Rattle.wasm_grammar.specs.CanonicalTypes.{vector_bytes, table_type_bytes};
 ghost use Rattle.wasm_grammar.specs.CanonicalModules.{section_of, start_section, start_bytes, code_bytes, module_bytes};
 ghost use Rattle.wasm_grammar.specs.Nesting.{ModuleNestsAtMost, nesting_limit};
-ghost use Rattle.wasm_encode.specs.Contents.{EachContentFits, IsFirstTooLong};
+ghost use Rattle.wasm_encode.specs.Contents.{EachContentFits, IsFirstTooLong, TellsFit};
 
 use crate::entries::push_table_types;
 use crate::error::EncodeError;
@@ -12,6 +12,27 @@ use crate::vector::{Entry, push_vector};
 use std::alloc::Global;
 use wasm_ast::{Code, Limits, List, WModule};
 use wasm_leb::push_u32;
+
+// The ids of the sections (WebAssembly Core Specification 1.0, 5.5.2 Sections); `CODE` is another.
+const TYPE: u8 = 1;
+
+const IMPORT: u8 = 2;
+
+const FUNCTION: u8 = 3;
+
+const TABLE: u8 = 4;
+
+const MEMORY: u8 = 5;
+
+const GLOBAL: u8 = 6;
+
+const EXPORT: u8 = 7;
+
+const START: u8 = 8;
+
+const ELEMENT: u8 = 9;
+
+const DATA: u8 = 11;
 
 /// The magic number and the version.
 const PREAMBLE: [u8; 8] = *b"\0asm\x01\0\0\0";
@@ -26,17 +47,17 @@ pub fn encode(alloc: Global, m: &WModule) -> Result<Vec<u8>, EncodeError>
     ensures long { (id : ℕ) → IsErrOf result (EncodeError.TooLong id) → IsFirstTooLong m.now id }
 {
     let mut out = Vec::from_slice(alloc, &PREAMBLE)?;
-    push_section(alloc, &mut out, 1, &m.types)?;
-    push_section(alloc, &mut out, 2, &m.imports)?;
-    push_section(alloc, &mut out, 3, &m.funcs)?;
+    push_section(alloc, &mut out, TYPE, &m.types)?;
+    push_section(alloc, &mut out, IMPORT, &m.imports)?;
+    push_section(alloc, &mut out, FUNCTION, &m.funcs)?;
     push_table_section(alloc, &mut out, &m.tables)?;
-    push_section(alloc, &mut out, 5, &m.memories)?;
-    push_section(alloc, &mut out, 6, &m.globals)?;
-    push_section(alloc, &mut out, 7, &m.exports)?;
+    push_section(alloc, &mut out, MEMORY, &m.memories)?;
+    push_section(alloc, &mut out, GLOBAL, &m.globals)?;
+    push_section(alloc, &mut out, EXPORT, &m.exports)?;
     push_start_section(alloc, &mut out, m.start)?;
-    push_section(alloc, &mut out, 9, &m.elements)?;
+    push_section(alloc, &mut out, ELEMENT, &m.elements)?;
     push_code_section(alloc, &mut out, &m.codes)?;
-    push_section(alloc, &mut out, 11, &m.segments)?;
+    push_section(alloc, &mut out, DATA, &m.segments)?;
     Ok(out)
 }
 
@@ -49,8 +70,7 @@ fn push_section<T: Entry>(
     entries: &List<T>,
 ) -> Result<(), EncodeError>
     ensures ok { OnOk result (out.new.items ≡ out.old.items ++ section_of id entries.now (vector_bytes T.bytes entries.now)) }
-    ensures short { OnOk result (length (vector_bytes T.bytes entries.now) < 2 ^ 32) }
-    ensures cause { (j : ℕ) → IsErrOf result (EncodeError.TooLong j) → (j ≡ id) × (2 ^ 32 ≤ length (vector_bytes T.bytes entries.now)) }
+    ensures fit { TellsFit result id (vector_bytes T.bytes entries.now) }
 {
     if entries.is_empty() {
         return Ok(());
@@ -73,13 +93,12 @@ fn push_table_section(
     tables: &List<Limits>,
 ) -> Result<(), EncodeError>
     ensures ok { OnOk result (out.new.items ≡ out.old.items ++ section_of 4 tables.now (vector_bytes table_type_bytes tables.now)) }
-    ensures short { OnOk result (length (vector_bytes table_type_bytes tables.now) < 2 ^ 32) }
-    ensures cause { (j : ℕ) → IsErrOf result (EncodeError.TooLong j) → (j ≡ 4) × (2 ^ 32 ≤ length (vector_bytes table_type_bytes tables.now)) }
+    ensures fit { TellsFit result 4 (vector_bytes table_type_bytes tables.now) }
 {
     if tables.is_empty() {
         return Ok(());
     }
-    let section = open_section(alloc, out, 4)?;
+    let section = open_section(alloc, out, TABLE)?;
     match push_table_types(out, tables.as_slice()) {
         Ok(()) => section.close(out),
         Err(error) => {
@@ -97,13 +116,12 @@ fn push_start_section(
     start: Option<u32>,
 ) -> Result<(), EncodeError>
     ensures ok { OnOk result (out.new.items ≡ out.old.items ++ start_section start) }
-    ensures short { OnOk result (length (start_bytes start) < 2 ^ 32) }
-    ensures cause { (j : ℕ) → IsErrOf result (EncodeError.TooLong j) → (j ≡ 8) × (2 ^ 32 ≤ length (start_bytes start)) }
+    ensures fit { TellsFit result 8 (start_bytes start) }
 {
     let Some(function) = start else {
         return Ok(());
     };
-    let section = open_section(alloc, out, 8)?;
+    let section = open_section(alloc, out, START)?;
     match push_u32(out, function) {
         Ok(()) => section.close(out),
         Err(error) => {
@@ -121,8 +139,7 @@ fn push_code_section(
     codes: &List<Code>,
 ) -> Result<(), EncodeError>
     ensures ok { OnOk result (out.new.items ≡ out.old.items ++ section_of 10 codes.now (vector_bytes code_bytes codes.now)) }
-    ensures short { OnOk result (length (vector_bytes code_bytes codes.now) < 2 ^ 32) }
-    ensures cause { (j : ℕ) → IsErrOf result (EncodeError.TooLong j) → (j ≡ 10) × (2 ^ 32 ≤ length (vector_bytes code_bytes codes.now)) }
+    ensures fit { TellsFit result 10 (vector_bytes code_bytes codes.now) }
 {
     if codes.is_empty() {
         return Ok(());

@@ -1,4 +1,4 @@
-use Rattle.std.proofs.Common.{◌≡◌, ◌≤◌, ap, length, arith}
+use Rattle.std.proofs.Common.{ap, length, arith}
 use Rattle.std.proofs.lemmas.Result.{err_from_is_err_and}
 use Rattle.wasm_grammar.specs.CanonicalModules.{code_bytes}
 use Rattle.wasm_grammar.proofs.Sections.{length-vector-entry}

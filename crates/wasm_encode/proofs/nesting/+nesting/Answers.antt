@@ -1,4 +1,4 @@
-use Rattle.std.proofs.Common.{◌≡◌, ◌∙◌, ap, sym, arith, true, false}
+use Rattle.std.proofs.Common.{◌∙◌, ap, sym, arith}
 use Rattle.wasm_grammar.specs.Nesting.{nesting, immediate_nesting}
 use Rattle.wasm_grammar.proofs.InstructionLayers.{nesting-layer}
 use Rattle.wasm_encode.proofs.nesting.+nesting.Goals as goal

@@ -1,4 +1,4 @@
-use Rattle.std.proofs.Common.{◌≤◌, ◌+◌, ◌*◌, take}
+use Rattle.std.proofs.Common.{◌+◌, ◌*◌, take}
 use Rattle.wasm_grammar.specs.Nesting.{NestsAtMost}
 use Rattle.wasm_encode.proofs.nesting.+nesting.Given as goal
 
