@@ -1,0 +1,3 @@
+pub mod InstructionLayers
+pub mod WorkedRows
+pub mod Sections

@@ -1,0 +1,20 @@
+//! The binary format of WebAssembly 1.0 modules, integer profile: definitions, and laws about them.
+#![tactic(auto)]
+
+ghost use Rattle.std.specs.Prelude.{◌≡◌};
+ghost use Rattle.wasm_grammar.specs.CanonicalModules.{module_bytes};
+ghost use Rattle.wasm_grammar.specs.Layers.{BytesByLayers, NestingByLayers};
+ghost use Rattle.wasm_grammar.specs.WorkedModules.{empty_module, empty_module_bytes, six_module, six_module_bytes};
+
+/// A law: the canonical bytes and the nesting of an instruction follow from its opcode, its immediates and
+/// the nested instructions.
+pub fn instruction_layers()
+    ensures bytes { BytesByLayers }
+    ensures nesting { NestingByLayers }
+{}
+
+/// Two modules have the canonical bytes that are written out for them.
+pub fn worked_modules()
+    ensures empty { module_bytes empty_module ≡ empty_module_bytes }
+    ensures six { module_bytes six_module ≡ six_module_bytes }
+{}

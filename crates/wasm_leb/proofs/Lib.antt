@@ -1,0 +1,4 @@
+pub mod Least
+pub mod OneForm
+pub mod Shortest
+pub mod Spelled
