@@ -1,0 +1,3 @@
+pub mod SpelledValues
+pub mod SpelledInstructions
+pub mod SpelledModules
