@@ -60,14 +60,22 @@ IsSegment s = IsUnsigned s.memory followed_by IsConstantExpression s.offset foll
 abbrev pub IsSection : ℕ → (List ℕ → Type 0) → List ℕ → Type 0
 IsSection id Content = IsByte id followed_by IsSized Content
 
--- a section of so many entries, which may be left out where there is none (5.5.2)
+-- a section that may be left out where there is nothing that it would hold (5.5.2)
+abbrev pub IsOptionalSection : ℕ → (List ℕ → Type 0) → Type 0 → List ℕ → Type 0
+IsOptionalSection id Content Nothing bytes = IsSection id Content bytes ⊎ (Nothing × (bytes ≡ []))
+
+-- a section of a vector of entries, which may be left out where there is none (5.5.2)
 abbrev pub IsVectorSection : {X : Type 0} → ℕ → (X → List ℕ → Type 0) → List X → List ℕ → Type 0
-IsVectorSection id Entry xs bytes = IsSection id (IsVector Entry xs) bytes ⊎ ((xs ≡ []) × (bytes ≡ []))
+IsVectorSection id Entry xs = IsOptionalSection id (IsVector Entry xs) (xs ≡ [])
+
+-- the index of the start function (5.5.11)
+abbrev pub IsStart : Option ℕ → List ℕ → Type 0
+IsStart None = λ bytes. ⊥
+IsStart (Some n) = IsUnsigned n
 
 -- the start section, which is left out where there is no start function (5.5.11)
 abbrev pub IsStartSection : Option ℕ → List ℕ → Type 0
-IsStartSection None = IsExactly []
-IsStartSection (Some n) = IsSection 8 (IsUnsigned n)
+IsStartSection start = IsOptionalSection 8 (IsStart start) (start ≡ None)
 
 -- a custom section; in this project's profile its content is bytes of any kind, and its name is not read (5.5.3)
 abbrev pub IsCustomSection : List ℕ → List ℕ → Type 0

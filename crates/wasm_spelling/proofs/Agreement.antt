@@ -1,6 +1,6 @@
 -- Productions that tell what they spell: of two byte lists that begin alike, two productions take the same bytes,
 -- and then `Same` holds of their values. That composes along productions.
-use Rattle.std.proofs.Common.{◌≡◌, ◌∙◌, ℕ, zero, suc, List, [], ◌∷◌, ◌++◌, length, refl, sym, ap, arith, append_assoc}
+use Rattle.std.proofs.Common.{◌≡◌, ◌∙◌, ℕ, zero, suc, List, [], ◌∷◌, ◌++◌, length, refl, sym, ap, arith, subst, append_assoc}
 use Rattle.wasm_leb.specs.Leb.{IsUnsignedEnd, IsSignedEnd}
 use Rattle.wasm_leb.proofs.OneForm.{one_form, unsigned_end, signed_end}
 use Rattle.wasm_grammar.specs.GrammarValues.{Joined, IsExactly, IsByte, IsRaw, IsUnsigned, IsSigned32, IsSigned64, IsEach, IsVector, IsByteVector, IsName, IsSized}
@@ -98,14 +98,17 @@ name xs ys =
     record { at = λ a b u v p q e. k.at a b u v p.1 q.1 e }
 
 -- a content of a size is all of it
-pub sized : {First Second : List ℕ → Type 0} {Same : Type 0} → Agree First Second Same → Agree (IsSized First) (IsSized Second) Same
-sized k = record {
+pub sized : {First Second : List ℕ → Type 0} {Same : Type 0} → ((content : List ℕ) → First content → Second content → Same) → Agree (IsSized First) (IsSized Second) Same
+sized {First} k = record {
   at = λ a b u v p q e.
       let e' = apart a q.size b q.content p.size p.content u v p.whole q.whole e in
       let h = (unsigned (length p.content) (length q.content)).at p.size q.size (p.content ++ u) (q.content ++ v) p.measured q.measured e' in
       let f = behind p.size q.size (p.content ++ u) (q.content ++ v) h.0 e' in
-      let g = k.at p.content q.content u v p.spelled q.spelled f in
+      let content : p.content ≡ q.content = fronts p.content q.content u v h.1 f in
       let size : p.size ≡ q.size = h.0 in
-      let content : p.content ≡ q.content = g.0 in
-      (p.whole ∙ ap (λ z. z ++ p.content) size ∙ ap (λ z. q.size ++ z) content ∙ sym q.whole, g.1);
+      (p.whole ∙ (λ i. size i ++ content i) ∙ sym q.whole, k q.content (subst First content p.spelled) q.spelled);
 }
+
+-- what two productions say of the same bytes
+pub of_all : {First Second : List ℕ → Type 0} {Same : Type 0} → Agree First Second Same → (bytes : List ℕ) → First bytes → Second bytes → Same
+of_all k bytes p q = (k.at bytes bytes [] [] p q refl).1

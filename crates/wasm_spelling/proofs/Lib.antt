@@ -5,3 +5,6 @@ pub mod Agreement
 pub mod TypesAgree
 pub mod ImmediatesAgree
 pub mod InstructionsAgree
+pub mod EntriesAgree
+pub mod SectionsAgree
+pub mod ModulesAgree

@@ -107,8 +107,8 @@ vector_section id Entry (x ∷ xs) content short p =
 
 start : (s : Option ℕ) → OptionFits s → length (start_bytes s) < 2 ^ 32 → IsStartSection s (start_section s)
 unfolding start_section
-start None h short = refl
-start (Some n) h short = section 8 (IsUnsigned n) (unsigned_least 5 n) short (u32 n h)
+start None h short = inr (refl, refl)
+start (Some n) h short = inl (section 8 (IsUnsigned n) (unsigned_least 5 n) short (u32 n h))
 
 no_customs : AreCustomSections []
 no_customs = ([], refl)

@@ -19,3 +19,11 @@ CanonicalBytesSpell = (m : WModule) → IsInProfile m → HasShortContents m →
 abbrev pub InstructionsHaveOneForm : Type 0
 InstructionsHaveOneForm =
     (w z : WInstr) (a b u v : List ℕ) → IsInstruction w a → IsInstruction z b → a ++ u ≡ b ++ v → (a ≡ b) × (w ≡ z)
+
+-- bytes spell one module at most
+abbrev pub BytesSpellOneModule : Type 0
+BytesSpellOneModule = (bytes : List ℕ) (m k : WModule) → SpellsModule bytes m → SpellsModule bytes k → m ≡ k
+
+-- the canonical bytes of a module spell no other one
+abbrev pub CanonicalBytesSpellOnly : Type 0
+CanonicalBytesSpellOnly = (m k : WModule) → IsInProfile m → HasShortContents m → SpellsModule (module_bytes m) k → k ≡ m
