@@ -85,12 +85,10 @@ IsCustomSection content = IsSection 0 (IsRaw content)
 abbrev pub AreCustomSections : List ℕ → Type 0
 AreCustomSections bytes = (contents : List (List ℕ)) × IsEach IsCustomSection contents bytes
 
--- a module: the magic number and the version, and its sections in the order of their ids, with custom sections
--- anywhere between (5.5.15)
-abbrev pub IsModule : WModule → List ℕ → Type 0
-IsModule m =
-    IsExactly preamble
-    followed_by AreCustomSections
+-- the sections of a module, in the order of their ids, each at most once, with custom sections anywhere between (5.5.15)
+abbrev pub AreSections : WModule → List ℕ → Type 0
+AreSections m =
+    AreCustomSections
     followed_by IsVectorSection 1 IsFuncType m.types
     followed_by AreCustomSections
     followed_by IsVectorSection 2 IsImport m.imports
@@ -113,6 +111,10 @@ IsModule m =
     followed_by AreCustomSections
     followed_by IsVectorSection 11 IsSegment m.segments
     followed_by AreCustomSections
+
+-- a module: the magic number and the version, and its sections (5.5.15)
+abbrev pub IsModule : WModule → List ℕ → Type 0
+IsModule m = IsExactly preamble followed_by AreSections m
 
 -- the bytes spell the module: all of them, by the productions, and the module is in the profile. That there are
 -- as many codes as functions is the standard's own condition (5.5.15)

@@ -1,6 +1,6 @@
 -- Productions that tell what they spell: of two byte lists that begin alike, two productions take the same bytes,
 -- and then `Same` holds of their values. That composes along productions.
-use Rattle.std.proofs.Common.{◌≡◌, ◌∙◌, ℕ, zero, suc, List, [], ◌∷◌, ◌++◌, length, refl, sym, ap, arith, subst, append_assoc}
+use Rattle.std.proofs.Common.{◌≡◌, ◌∙◌, ℕ, List, [], ◌∷◌, ◌++◌, length, refl, sym, ap, arith, subst, append_assoc}
 use Rattle.wasm_leb.specs.Leb.{IsUnsignedEnd, IsSignedEnd}
 use Rattle.wasm_leb.proofs.OneForm.{one_form, unsigned_end, signed_end}
 use Rattle.wasm_grammar.specs.GrammarValues.{Joined, IsExactly, IsByte, IsRaw, IsUnsigned, IsSigned32, IsSigned64, IsEach, IsVector, IsByteVector, IsName, IsSized}

@@ -1,12 +1,11 @@
 -- What follows an opcode is told by the opcode: its kind stands in the tables, and its bytes tell its value.
-use Rattle.std.proofs.Common.{◌≡◌, ◌∙◌, ℕ, List, [], ◌∷◌, ◌++◌, refl, sym, ap, arith}
-use Rattle.std.specs.Prelude.{Option, ◌==◌, if◌then◌else◌, is_some}
+use Rattle.std.proofs.Common.{◌≡◌, ◌∙◌, ℕ, List, [], refl, sym, ap, arith}
+use Rattle.std.specs.Prelude.{if◌then◌else◌, is_some}
 use Rattle.wasm_ast.specs.declared.instructions.WInstr.{WInstr, out-WInstr}
 use Rattle.wasm_ast.specs.declared.instructions.WInstr.TheOpen.{WInstr-F}
 use Rattle.wasm_ast.specs.Opcodes.{opcode_in, opcode_of}
 use Rattle.wasm_ast.specs.Immediates.{Immediate, Bare, Index, Labels, IndexZero, Zero, MemArg, Const32, Const64, Body, Bodies, immediate_in, immediate_of}
 use Rattle.wasm_ast.specs.ByOpcode.{look_up, bare_instructions, index_instructions, label_instructions, index_zero_instructions, zero_instructions, memory_instructions, const32_instructions, const64_instructions, body_instructions}
-use Rattle.wasm_grammar.specs.GrammarValues.{IsUnsigned, IsVector}
 use Rattle.wasm_grammar.specs.GrammarInstructions.{IsImmediate}
 use Rattle.wasm_spelling.proofs.Agreement.{Agree, so, joined, exactly, byte, unsigned, signed32, signed64, unsigneds}
 

@@ -1,9 +1,8 @@
 -- Bytes tell the instruction that they spell: by induction on its spelling.
-use Rattle.std.proofs.Common.{◌≡◌, ◌∙◌, ℕ, List, [], ◌∷◌, ◌++◌, Option, ◌⊎◌, inl, inr, refl, sym, ap, arith, append_assoc}
-use Rattle.wasm_ast.specs.declared.types.ValTy.{ValTy}
+use Rattle.std.proofs.Common.{◌≡◌, ◌∙◌, ℕ, List, [], ◌∷◌, ◌++◌, ◌⊎◌, inl, inr, refl, sym, ap, arith, append_assoc}
 use Rattle.wasm_ast.specs.declared.instructions.WInstr.{WInstr}
 use Rattle.wasm_ast.specs.Opcodes.{opcode_of}
-use Rattle.wasm_ast.specs.Immediates.{Immediate, Body, Bodies, immediate_of}
+use Rattle.wasm_ast.specs.Immediates.{Body, Bodies, immediate_of}
 use Rattle.wasm_ast.proofs.Tables.{opcodes_tell_apart}
 use Rattle.wasm_grammar.specs.Tags.{block_type}
 use Rattle.wasm_grammar.specs.GrammarInstructions.{IsInstruction, IsInstructions, plain, nested, two_arms, none, more, IsExpression, IsConstantExpression}

@@ -8,3 +8,4 @@ pub mod InstructionsAgree
 pub mod EntriesAgree
 pub mod SectionsAgree
 pub mod ModulesAgree
+pub mod PaddedRows

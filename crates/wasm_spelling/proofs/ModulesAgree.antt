@@ -2,10 +2,10 @@
 use Rattle.std.proofs.Common.{◌≡◌, ◌∙◌, ℕ, List, sym, subst, lit<}
 use Rattle.std.specs.Prelude.{Option, Some, None}
 use Rattle.wasm_ast.specs.declared.modules.WModule.{WModule}
-use Rattle.wasm_grammar.specs.GrammarValues.{◌followed_by◌, IsUnsigned}
-use Rattle.wasm_grammar.specs.CanonicalModules.{preamble, module_bytes}
+use Rattle.wasm_grammar.specs.GrammarValues.{IsUnsigned}
+use Rattle.wasm_grammar.specs.CanonicalModules.{module_bytes}
 use Rattle.wasm_grammar.specs.GrammarTypes.{IsFuncType, IsLimits, IsTableType}
-use Rattle.wasm_grammar.specs.GrammarModules.{IsVectorSection, IsStartSection, AreCustomSections, IsImport, IsGlobal, IsExport, IsStart, IsElement, IsCode, IsSegment, IsModule, SpellsModule}
+use Rattle.wasm_grammar.specs.GrammarModules.{AreSections, IsImport, IsGlobal, IsExport, IsStart, IsElement, IsCode, IsSegment, IsModule}
 use Rattle.wasm_spelling.specs.SpellingLaws.{BytesSpellOneModule, CanonicalBytesSpellOnly}
 use Rattle.wasm_spelling.proofs.Agreement.{Agree, so, unsigned, behind}
 use Rattle.wasm_spelling.proofs.TypesAgree.{func_type-agree, limits-agree, table_type-agree}
@@ -17,33 +17,6 @@ start-agree : (s t : Option ℕ) → Agree (IsStart s) (IsStart t) (s ≡ t)
 start-agree None t = record { at = λ a b u v p q e. absurd p }
 start-agree (Some m) None = record { at = λ a b u v p q e. absurd q }
 start-agree (Some m) (Some n) = so (unsigned m n) (λ e. λ i. Some (e i))
-
--- what follows the preamble of a module
-abbrev Sections : WModule → List ℕ → Type 0
-Sections m =
-    AreCustomSections
-    followed_by IsVectorSection 1 IsFuncType m.types
-    followed_by AreCustomSections
-    followed_by IsVectorSection 2 IsImport m.imports
-    followed_by AreCustomSections
-    followed_by IsVectorSection 3 IsUnsigned m.funcs
-    followed_by AreCustomSections
-    followed_by IsVectorSection 4 IsTableType m.tables
-    followed_by AreCustomSections
-    followed_by IsVectorSection 5 IsLimits m.memories
-    followed_by AreCustomSections
-    followed_by IsVectorSection 6 IsGlobal m.globals
-    followed_by AreCustomSections
-    followed_by IsVectorSection 7 IsExport m.exports
-    followed_by AreCustomSections
-    followed_by IsStartSection m.start
-    followed_by AreCustomSections
-    followed_by IsVectorSection 9 IsElement m.elements
-    followed_by AreCustomSections
-    followed_by IsVectorSection 10 IsCode m.codes
-    followed_by AreCustomSections
-    followed_by IsVectorSection 11 IsSegment m.segments
-    followed_by AreCustomSections
 
 productions_one : (bytes : List ℕ) (m k : WModule) → IsModule m bytes → IsModule k bytes → m ≡ k
 productions_one bytes m k p q =
@@ -61,7 +34,7 @@ productions_one bytes m k p q =
     (told_vector 10 11 (lit< tt) IsSegment segment-agree m.segments k.segments
     (told_end 11))))))))))) in
     let f = behind p.front q.front p.back q.back (p.first ∙ sym q.first) (sym p.whole ∙ q.whole) in
-    let e = later.same q.back (subst (Sections m) f p.second) q.second in
+    let e = later.same q.back (subst (AreSections m) f p.second) q.second in
     λ i. record {
       types = e.0 i;
       imports = e.1.0 i;

@@ -1,7 +1,7 @@
 -- Sections with custom sections between: what is left out, and where a custom section is counted, leaves open how
 -- bytes are taken apart, but not which module they spell.
 use Rattle.std.proofs.Common.{◌≡◌, ◌∙◌, ℕ, ◌<◌, List, [], ◌∷◌, ◌++◌, ◌⊎◌, inl, inr, refl, sym, ap, subst, arith, append_assoc}
-use Rattle.wasm_grammar.specs.GrammarValues.{Joined, IsByte, IsRaw, IsEach, IsVector}
+use Rattle.wasm_grammar.specs.GrammarValues.{Joined, IsRaw, IsEach}
 use Rattle.wasm_grammar.specs.GrammarModules.{IsSection, IsOptionalSection, IsVectorSection, IsCustomSection, AreCustomSections}
 use Rattle.wasm_spelling.proofs.Agreement.{Agree, so, joined, behind, byte, vector, sized, of_all}
 

@@ -110,11 +110,11 @@ unfolding start_section
 start None h short = inr (refl, refl)
 start (Some n) h short = inl (section 8 (IsUnsigned n) (unsigned_least 5 n) short (u32 n h))
 
-no_customs : AreCustomSections []
+pub no_customs : AreCustomSections []
 no_customs = ([], refl)
 
 -- no custom sections, and then a section and the rest
-next : {Section Rest : List ℕ → Type 0} (front back : List ℕ) → Section front → Rest back → Joined AreCustomSections (Joined Section Rest) (front ++ back)
+pub next : {Section Rest : List ℕ → Type 0} (front back : List ℕ) → Section front → Rest back → Joined AreCustomSections (Joined Section Rest) (front ++ back)
 next front back p q = joined [] (front ++ back) no_customs (joined front back p q)
 
 -- the last section, which no custom section follows

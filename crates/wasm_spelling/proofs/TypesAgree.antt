@@ -1,5 +1,5 @@
 -- The productions of types tell which type they spell.
-use Rattle.std.proofs.Common.{◌≡◌, ℕ, List, [], ◌∷◌, refl, arith}
+use Rattle.std.proofs.Common.{◌≡◌, ℕ, refl, arith}
 use Rattle.std.specs.Prelude.{Bool, true, false, Option, Some, None, option_to_list}
 use Rattle.wasm_ast.specs.declared.types.ValTy.{ValTy}
 use Rattle.wasm_ast.specs.declared.types.ValTy.TheVariants.{I32, I64}
@@ -52,7 +52,6 @@ func_type-agree f g =
     so (joined (byte 0x60 0x60) (λ _. joined (vector IsValueType value_type-agree f.params g.params) (λ _.
     vector IsValueType value_type-agree (option_to_list f.result) (option_to_list g.result))))
     (λ e. let h = option-one f.result g.result e.1.1 in λ i. record { params = e.1.0 i; result = h i })
-
 
 bounds-agree : (least : ℕ) (most : Option ℕ) (least' : ℕ) (most' : Option ℕ) → Agree (IsBounds least most) (IsBounds least' most') ((least ≡ least') × (most ≡ most'))
 bounds-agree least None least' None = so (joined (byte 0x00 0x00) (λ _. unsigned least least')) (λ e. (e.1, refl))

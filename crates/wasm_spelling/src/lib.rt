@@ -1,6 +1,9 @@
 //! Laws of the binary format: the canonical bytes of a module spell it, and bytes spell one module at most.
 #![tactic(auto)]
 
+ghost use Rattle.wasm_grammar.specs.GrammarModules.{SpellsModule};
+ghost use Rattle.wasm_grammar.specs.WorkedModules.{six_module, six_module_bytes};
+ghost use Rattle.wasm_spelling.specs.PaddedModule.{padded_module_bytes};
 ghost use Rattle.wasm_spelling.specs.SpellingLaws.{BytesSpellOneModule, CanonicalBytesSpell, CanonicalBytesSpellOnly, InstructionsHaveOneForm};
 
 /// A law: the canonical bytes of a module of the profile, where each section's content has fewer than
@@ -18,4 +21,11 @@ pub fn instructions_have_one_form()
 /// A law: bytes spell one module at most, in whatever way they are taken apart.
 pub fn bytes_spell_one_module()
     ensures { BytesSpellOneModule }
+{}
+
+/// A module that is written out with its canonical bytes, and with longer numbers and two custom sections:
+/// both spell it.
+pub fn padded_module_is_spelled()
+    ensures padded { SpellsModule padded_module_bytes six_module }
+    ensures canonical { SpellsModule six_module_bytes six_module }
 {}
