@@ -8,4 +8,6 @@ pub mod InstructionsAgree
 pub mod EntriesAgree
 pub mod SectionsAgree
 pub mod ModulesAgree
+pub mod KnownInstructions
 pub mod PaddedRows
+pub mod FullRows

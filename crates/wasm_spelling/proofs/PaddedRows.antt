@@ -1,56 +1,49 @@
 -- A derivation by hand of the padded module, section by section, and the canonical one by the law.
-use Rattle.std.proofs.Common.{◌≡◌, ◌∙◌, ℕ, ◌+◌, ◌^◌, ◌<◌, List, [], ◌∷◌, ◌++◌, length, inl, inr, refl, sym, ap, subst, arith, lit<, lit≤}
-use Rattle.std.specs.Prelude.{All, IsUtf8, Bool, true, false, ◌==◌, if◌then◌else◌}
+use Rattle.std.proofs.Common.{◌≡◌, ℕ, ◌+◌, ◌^◌, ◌<◌, List, [], ◌∷◌, ◌++◌, length, inl, inr, refl, sym, ap, subst, arith, lit<, lit≤}
+use Rattle.std.specs.Prelude.{All, IsUtf8, ◌==◌}
 use Rattle.std.proofs.lemmas.List.Elements.{All-cons, All-nil}
 use Rattle.wasm_leb.specs.Leb.{IsU32, IsS64, unsigned_least}
-use Rattle.wasm_ast.specs.declared.instructions.WInstr.{WInstr, I64Const, roll-WInstr, out-roll-WInstr}
+use Rattle.wasm_ast.specs.declared.instructions.WInstr.{WInstr, I64Const}
 use Rattle.wasm_ast.specs.declared.instructions.WInstr.TheOpen.{WInstr-F}
 use Rattle.wasm_ast.specs.declared.instructions.WInstr.TheVariants.{rolls-I64Const}
-use Rattle.wasm_ast.specs.Opcodes.{opcode_in, opcode_of}
-use Rattle.wasm_ast.specs.Immediates.{Immediate, Const64, immediate_in, immediate_of}
-use Rattle.wasm_grammar.specs.Nesting.{nesting, immediate_nesting, nesting_limit, NestsAtMost, ModuleNestsAtMost}
-use Rattle.wasm_grammar.specs.CanonicalInstructions.{immediate_bytes, instruction_bytes}
+use Rattle.wasm_ast.specs.Opcodes.{opcode_of}
+use Rattle.wasm_ast.specs.Immediates.{Immediate, Const64, immediate_of}
+use Rattle.wasm_grammar.specs.Nesting.{nesting, nesting_limit, NestsAtMost, ModuleNestsAtMost}
+use Rattle.wasm_grammar.specs.CanonicalInstructions.{instruction_bytes}
 use Rattle.wasm_grammar.specs.CanonicalModules.{code_content, preamble}
 use Rattle.wasm_grammar.specs.WorkedModules.{six, six_module, six_module_bytes, main_export, gives_i64}
-use Rattle.wasm_grammar.specs.ProfileInstructions.{ImmediateFits, IsShortListOf, plain_fits, none_fit, more_fit}
+use Rattle.wasm_grammar.specs.ProfileInstructions.{none_fit, more_fit}
 use Rattle.wasm_grammar.specs.Profile.{CodeFits, IsInProfile}
 use Rattle.wasm_grammar.specs.GrammarValues.{IsRaw, IsUnsigned, IsVector}
 use Rattle.wasm_grammar.specs.GrammarTypes.{IsFuncType}
 use Rattle.wasm_grammar.specs.GrammarInstructions.{IsImmediate, IsInstruction, plain, none, more}
 use Rattle.wasm_grammar.specs.GrammarModules.{IsSection, IsOptionalSection, AreCustomSections, IsExport, IsFunction, IsCode, IsModule, SpellsModule}
-use Rattle.wasm_grammar.proofs.InstructionLayers.{instruction_bytes-roll, nesting-layer}
 use Rattle.wasm_grammar.proofs.WorkedRows.{six_module-bytes}
 use Rattle.wasm_spelling.specs.SpellingLaws.{HasShortContents}
 use Rattle.wasm_spelling.specs.PaddedModule.{custom_x, padded_types, padded_functions, custom_abc, padded_exports, padded_codes, padded_module_bytes}
+use Rattle.wasm_spelling.proofs.KnownInstructions.{known_opcode, known_immediate, known_bytes, known_nesting, known_fits, one, empty, one_byte, no_byte, chosen}
 use Rattle.wasm_spelling.proofs.SpelledValues.{joined}
 use Rattle.wasm_spelling.proofs.SpelledModules.{next, no_customs, canonical_bytes_spell}
 
--- i64.const 6, from its layer
-six-layer : {X : Type 0} (of : WInstr-F WInstr → X) (w : WInstr → X) → ((x : WInstr-F WInstr) → w (roll-WInstr x) ≡ of x) → w (I64Const 6) ≡ of (WInstr-F.I64Const 6)
-six-layer of w e = ap w (sym (rolls-I64Const 6)) ∙ e (WInstr-F.I64Const 6)
-
 six-opcode : opcode_of (I64Const 6) ≡ 0x42
-six-opcode = six-layer opcode_in opcode_of (λ x. ap opcode_in (out-roll-WInstr x))
+six-opcode = known_opcode (WInstr-F.I64Const 6) (I64Const 6) (rolls-I64Const 6)
 
 six-immediate : immediate_of (I64Const 6) ≡ Const64 6
-six-immediate = six-layer immediate_in immediate_of (λ x. ap immediate_in (out-roll-WInstr x))
+six-immediate = known_immediate (WInstr-F.I64Const 6) (I64Const 6) (rolls-I64Const 6)
 
-one : {X : Type 0} (P : X → Type 0) (x : X) → P x → IsShortListOf P (x ∷ [])
-one P x h = record { short = omega arith; each = All-cons P x [] h (All-nil P) }
+six-bytes : instruction_bytes (I64Const 6) ≡ 0x42 ∷ 0x06 ∷ []
+six-bytes = known_bytes (WInstr-F.I64Const 6) (I64Const 6) (rolls-I64Const 6)
 
-empty : {X : Type 0} (P : X → Type 0) → IsShortListOf P []
-empty P = record { short = omega arith; each = All-nil P }
+six-nesting : nesting (I64Const 6) ≡ 0
+six-nesting = known_nesting (WInstr-F.I64Const 6) (I64Const 6) (rolls-I64Const 6)
 
 six-fits : CodeFits six
 six-fits = record {
   locals = empty _;
   local_count = lit≤ tt;
   body_length = omega arith;
-  body = more_fit (I64Const 6) [] refl (plain_fits (subst ImmediateFits (sym six-immediate) (lit< tt))) (none_fit refl);
+  body = more_fit (I64Const 6) [] refl (known_fits (WInstr-F.I64Const 6) (I64Const 6) (rolls-I64Const 6) (lit< tt)) (none_fit refl);
 }
-
-six-nesting : nesting (I64Const 6) ≡ 0
-six-nesting = nesting-layer (I64Const 6) ∙ ap (immediate_nesting nesting) six-immediate
 
 six-shallow : NestsAtMost nesting_limit six.body
 six-shallow = rw six-nesting (lit≤ tt)
@@ -179,12 +172,6 @@ codes =
     let content = joined (0x01 ∷ []) _ (short_u32 1 (lit< tt)) (joined _ [] code refl) in
     section 10 (IsVector IsCode six_module.codes) (0x89 ∷ 0x00 ∷ []) (0x01 ∷ 0x86 ∷ 0x00 ∷ 0x00 ∷ 0x42 ∷ 0x86 ∷ 0x80 ∷ 0x00 ∷ 0x0B ∷ []) (wide_u32 9 (lit< tt)) content
 
-one_byte : (b : ℕ) (bs : List ℕ) → b < 256 → All (λ c. c < 256) bs → All (λ c. c < 256) (b ∷ bs)
-one_byte b bs h k = All-cons (λ c. c < 256) b bs h k
-
-no_byte : All (λ c. c < 256) []
-no_byte = All-nil (λ c. c < 256)
-
 bytes_of_x : All (λ b. b < 256) (0x01 ∷ 0x78 ∷ [])
 bytes_of_x = one_byte 0x01 (0x78 ∷ []) (lit< tt) (one_byte 0x78 [] (lit< tt) no_byte)
 
@@ -221,23 +208,14 @@ padded-productions =
 pub padded-spells : SpellsModule padded_module_bytes six_module
 padded-spells = record { profile = six_module-fits; productions = padded-productions; counts = refl }
 
-six-bytes : instruction_bytes (I64Const 6) ≡ 0x42 ∷ 0x06 ∷ []
-six-bytes =
-    six-layer (λ (x : WInstr-F WInstr). opcode_in x ∷ immediate_bytes instruction_bytes (immediate_in x)) instruction_bytes instruction_bytes-roll
-
 -- the content of the code section, of which `body` is the only instruction
-codes_of : List ℕ → List ℕ
+abbrev codes_of : List ℕ → List ℕ
 codes_of body =
     let function = 0x00 ∷ ((body ++ []) ++ 0x0B ∷ []) in
     0x01 ∷ ((unsigned_least 5 (length function) ++ function) ++ [])
 
 codes-short : length (code_content six_module) < 2 ^ 32
-unfolding codes_of
 codes-short = subst (λ (body : List ℕ). length (codes_of body) < 2 ^ 32) (sym six-bytes) (lit< tt)
-
-chosen : (c : Bool) (a b : List ℕ) → length a < 2 ^ 32 → length b < 2 ^ 32 → length (if c then a else b) < 2 ^ 32
-chosen true a b h k = h
-chosen false a b h k = k
 
 six_module-short : HasShortContents six_module
 six_module-short id =

@@ -1,2 +1,3 @@
 pub mod SpellingLaws
 pub mod PaddedModule
+pub mod FullModule
