@@ -4,4 +4,10 @@ pub mod CanonicalInstructions
 pub mod CanonicalModules
 pub mod Nesting
 pub mod Layers
+pub mod ProfileInstructions
+pub mod Profile
+pub mod GrammarValues
+pub mod GrammarTypes
+pub mod GrammarInstructions
+pub mod GrammarModules
 pub mod WorkedModules
