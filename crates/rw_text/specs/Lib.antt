@@ -1,4 +1,5 @@
-pub mod Tokens
+pub mod Found
 pub mod Numbers
 pub mod Programs
 pub mod Spells
+pub mod Tokens

@@ -16,9 +16,9 @@ head =
     Open ∷ Word (codes "fun") ∷ Open ∷ Close ∷ Open ∷ Close ∷ Open ∷ Open ∷ Word (codes "unr") ∷ Word (codes "i64") ∷ Close ∷ Close ∷ Close ∷
     Open ∷ Word (codes "locals") ∷ Close ∷ []
 
--- `) (export "main" 0))`
+-- `(export "main" 0))`
 abbrev pub tail : List Token
-tail = Close ∷ Open ∷ Word (codes "export") ∷ Text (codes "main") ∷ Word (codes "0") ∷ Close ∷ Close ∷ []
+tail = Open ∷ Word (codes "export") ∷ Text (codes "main") ∷ Word (codes "0") ∷ Close ∷ Close ∷ []
 
 -- the tokens of an instruction
 abbrev pub IsInstr : Instr → List Token → Type 0
@@ -40,4 +40,4 @@ pub record IsProgram (ts : List Token) (m : Module) : Type 0 where
   pub is : m ≡ lone_main body
   pub instrs : IsBody body code
   pub short : length body ≤ 1000
-  pub tokens : ts ≡ head ++ (code ++ tail)
+  pub tokens : ts ≡ head ++ (code ++ Close ∷ tail)

@@ -1,5 +1,5 @@
 -- The tokens of Rich texts, and how bytes spell them. This project's own.
-use Rattle.std.specs.Prelude.{ℕ, ◌≡◌, ◌≤◌, ◌<◌, ◌==◌, ◌||◌, Bool, false, not, List, [], ◌∷◌, ◌++◌, IsTrue, ⊤, codes, length}
+use Rattle.std.specs.Prelude.{ℕ, ◌≡◌, ◌<◌, ◌==◌, ◌||◌, Bool, false, List, [], ◌∷◌, ◌++◌, IsTrue, ⊤, codes, length}
 use Rattle.std.specs.List.{list_all}
 use Rattle.std.specs.Char.{is_ascii_alphanumeric}
 use Rattle.rw_types.specs.Names.{IsName}
@@ -13,14 +13,6 @@ is_blank b = b == 32 || b == 9 || b == 10 || b == 13
 -- a letter, a digit, `_`, `.` or `-`
 abbrev pub is_word_byte : ℕ → Bool
 is_word_byte b = is_ascii_alphanumeric b || b == 95 || b == 46 || b == 45
-
--- `(`, `)` or a quote
-abbrev pub is_mark : ℕ → Bool
-is_mark b = b == 40 || b == 41 || b == 34
-
--- no quote
-abbrev pub is_unquoted : ℕ → Bool
-is_unquoted b = not (b == 34)
 
 -- how a token is written
 abbrev pub spelling : Token → List ℕ
@@ -68,11 +60,3 @@ Leads bytes (t ∷ ts) rest = (mid : List ℕ) × Begins bytes t mid × Leads mi
 -- bytes of which these are all tokens
 abbrev pub SpellsTokens : List ℕ → List Token → Type 0
 SpellsTokens bytes ts = (rest : List ℕ) × Leads bytes ts rest × IsTrue (list_all is_blank rest)
-
--- no token comes first
-abbrev pub StartsNone : List ℕ → Type 0
-StartsNone bytes = (t : Token) (rest : List ℕ) → Starts bytes t rest → ⊥
-
--- the same after any blanks
-abbrev pub BeginsNone : List ℕ → Type 0
-BeginsNone bytes = (t : Token) (rest : List ℕ) → Begins bytes t rest → ⊥

@@ -1,5 +1,11 @@
 //! The reader of Rich texts.
 #![tactic(auto)]
 
-pub mod tokens;
+mod body;
+mod integers;
+mod laws;
+mod reader;
+mod tokens;
 
+pub use laws::spells_one_module;
+pub use reader::{TextError, TextFault, read};

@@ -1,7 +1,9 @@
 ghost use Rattle.std.specs.Prelude.{ℕ, ◌≡◌, ◌==◌, ◌↔◌, ◌≤◌, ◌∷◌, List, length, drop, IsTrue, IfSome, IfNone};
 ghost use Rattle.std.specs.List.{list_all, prefix_len};
 ghost use Rattle.rw_types.specs.Names.{IsName};
-ghost use Rattle.rw_text.specs.Tokens.{Begins, BeginsNone, Ends, Starts, StartsNone, is_blank, is_mark, is_unquoted, is_word_byte};
+ghost use Rattle.rw_text.specs.declared.tokens.Token.TheVariants.{Word};
+ghost use Rattle.rw_text.specs.Tokens.{Begins, Ends, Starts, is_blank, is_word_byte};
+ghost use Rattle.rw_text.specs.Found.{Accepts, BeginsNone, StartsNone, is_mark, is_unquoted};
 
 use rw_types::is_name;
 use std::marker::Model;
@@ -42,6 +44,20 @@ pub enum Token<'a> {
     Text(Spelling<'a>),
 }
 
+impl<'a> Token<'a> {
+    fn same(&self, other: &Token<'a>) -> bool
+        ensures { IsTrue result ↔ (self.now ≡ other.now) }
+    {
+        match (self, other) {
+            (Token::Open, Token::Open) | (Token::Close, Token::Close) => true,
+            (Token::Word(a), Token::Word(b)) | (Token::Text(a), Token::Text(b)) => {
+                a.as_slice() == b.as_slice()
+            }
+            _ => false,
+        }
+    }
+}
+
 /// The tokens that are left of a text. Contracts see the bytes that are left.
 #[derive(Debug, Drop)]
 pub struct Tokens<'a> {
@@ -79,6 +95,36 @@ impl<'a> Tokens<'a> {
             }
             None => None,
         }
+    }
+
+    /// Takes the next token off, a word. None where another token comes, or none.
+    pub fn word(&mut self) -> Option<Spelling<'a>>
+        ensures found { IfSome result (λ w. Begins self.old (Word w) self.new) }
+        ensures none { IfNone result ((w rest : List ℕ) → Begins self.old (Word w) rest → ⊥) }
+    {
+        let Some(token) = self.next() else {
+            return None;
+        };
+        match token {
+            Token::Word(word) => Some(word),
+            _ => None,
+        }
+    }
+
+    /// Takes off the tokens that `text` spells. False where others come; then some are taken off.
+    pub fn accept(&mut self, text: &[u8]) -> bool
+        ensures { Accepts text.now self.old self.new result }
+    {
+        let mut wanted = Tokens::new(text);
+        while let Some(token) = wanted.next() {
+            let Some(found) = self.next() else {
+                return false;
+            };
+            if !found.same(&token) {
+                return false;
+            }
+        }
+        true
     }
 
     /// Whether nothing but blanks is left.

@@ -1,4 +1,4 @@
-use Rattle.std.proofs.Common.{sym, ◌∙◌, ap, length, arith, drop, take, subst, List, ℕ}
+use Rattle.std.proofs.Common.{sym, ◌∙◌, ap, length, arith, drop, take, subst}
 use Rattle.std.proofs.lemmas.Bool.{false≢true}
 use Rattle.rw_types.specs.Names.{IsName}
 use Rattle.rw_text.proofs.TokenLemmas.{text_found, text_parts}
