@@ -1,1 +1,2 @@
+pub mod ExportLists
 pub mod LoneFiles

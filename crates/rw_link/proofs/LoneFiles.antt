@@ -31,5 +31,5 @@ file_program file fs f ns notes main typed ef en em =
     let funcs = ap (λ (gs : List FuncDef). linked_funcs 0 gs file.notes) one ∙ ap (λ (all : List (List Note)). linked_funcs 0 (f ∷ []) all) noted in
     let globals = ap (λ (gs : List GlobalDef). linked_globals 0 gs (drop (length file.source.funcs) file.notes)) (ap (λ (m : Module). m.globals) typed.lone.is) in
     ap (λ (l : List LinkedFunc). program_with l (linked_globals 0 file.source.globals (drop (length file.source.funcs) file.notes)) (exported (codes "main") file.source.exports)) funcs
-      ∙ ap (λ (l : List LinkedGlobal). program_with linked l (exported (codes "main") file.source.exports)) globals
-      ∙ ap (λ (o : Option ℕ). program_with linked [] o) em
+    ∙ ap (λ (l : List LinkedGlobal). program_with linked l (exported (codes "main") file.source.exports)) globals
+    ∙ ap (λ (o : Option ℕ). program_with linked [] o) em

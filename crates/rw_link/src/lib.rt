@@ -2,6 +2,7 @@
 #![tactic(auto)]
 
 mod error;
+mod exports;
 mod program;
 
 pub use error::LinkError;

@@ -1,10 +1,11 @@
-ghost use Rattle.std.specs.Prelude.{◌≡◌, ◌↔◌, ◌≤◌, [], length, codes, Err, IfOk, IfErr, MatchResult, Some};
-ghost use Rattle.rw_program.specs.Linking.{exported, program_of};
+ghost use Rattle.std.specs.Prelude.{◌≡◌, ◌↔◌, ◌≤◌, [], length, Err, IfOk, IfErr, MatchResult, Some};
+ghost use Rattle.rw_program.specs.Linking.{program_of};
 ghost use Rattle.rw_link.specs.Answers.{LinksTo, IsNoMainOrMemory};
 
 use crate::error::LinkError;
+use crate::exports::main_export;
 use rw_program::{Checked, Linked, LinkedFunc};
-use rw_types::{ExportDef, List, Name};
+use rw_types::{List, Name};
 use std::alloc::Global;
 
 /// Links files, given with their names, to the program whose main function is the export `main` of the
@@ -27,7 +28,7 @@ fn link_file(alloc: Global, file: Checked) -> Result<Linked, LinkError>
     ensures { MatchResult result (λ program. program_of file ≡ Some program) (λ e. e ≡ LinkError.Memory) }
 {
     let (source, mut bodies) = file.into_parts();
-    let main = main_export(source.exports.as_slice());
+    let main = main_export(alloc, source.exports.as_slice())?;
     let mut funcs = source.funcs;
     let (Some(func), Some(notes), Some(main)) = (funcs.pop(), bodies.pop(), main) else {
         unreachable!()
@@ -41,14 +42,4 @@ fn link_file(alloc: Global, file: Checked) -> Result<Linked, LinkError>
         notes,
     })?;
     Ok(Linked::new(linked, List::new(alloc), main))
-}
-
-/// The number of the function that is exported as `main`.
-fn main_export(exports: &[ExportDef]) -> Option<u32>
-    ensures { result ≡ exported (codes "main") exports.now }
-{
-    exports
-        .iter()
-        .find(|export| export.name.as_slice() == b"main".as_slice())
-        .map(|export| export.func)
 }

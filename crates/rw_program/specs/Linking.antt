@@ -23,7 +23,7 @@ linked_globals file _ _ = []
 
 -- the number of the function that is exported by this name
 abbrev pub exported : List ℕ → List ExportDef → Option ℕ
-exported name exports = option_map (λ e. e.func) (find (λ e. bytes_eq e.name name) exports)
+exported name exports = option_map (λ e. e.func) (find (λ e. bytes_eq name e.name) exports)
 
 -- the program of these functions and globals, where there is a main function
 abbrev pub program_with : List LinkedFunc → List LinkedGlobal → Option ℕ → Option Program
