@@ -8,3 +8,4 @@ pub mod Endings
 pub mod Stops
 pub mod Outcomes
 pub mod Refusals
+pub mod Built

@@ -1,14 +1,15 @@
 // The top call: all that the program does.
-ghost use Rattle.std.specs.Prelude.{◌≡◌, ◌⊎◌, List, Some, None, IsErr, string_bytes, map};
+ghost use Rattle.std.specs.Prelude.{◌≡◌, ◌⊎◌, ℕ, List, Some, None, IsErr, string_bytes, map};
 ghost use Rattle.rw_io.specs.Counts.{Rose};
 ghost use Rattle.rw_io.specs.Files.{NamedFile};
 ghost use Rattle.rwc.specs.Acts.{seen_of};
+ghost use Rattle.rwc.specs.Built.{Built};
 ghost use Rattle.rwc.specs.Endings.{Keeps, WriteRose};
 ghost use Rattle.rwc.specs.Lines.{words_line};
 ghost use Rattle.rwc.specs.Outcomes.{Tells, Outcome};
 ghost use Rattle.rwc.specs.Reports.{Reports};
 ghost use Rattle.rwc.specs.Stops.{IsRefusal, stop_status, stop_line, status_of, line_of, IfStop, IfStopped};
-ghost use Rattle.rwc.specs.Words.{command_of};
+ghost use Rattle.rwc.specs.Words.{command_of, build};
 
 use crate::build::build;
 use crate::ending::{Done, Status, Stop};
@@ -28,6 +29,9 @@ pub fn rwc<S: Shelf, O: Sink, E: Sink>(
     ensures outcome { (files : List NamedFile) → (S.state shelf.old).holding.files ≡ Some files
         → Outcome (Reports (map string_bytes words.now) files) (S.state shelf.old) (S.state shelf.new)
         (O.state out.old) (O.state out.new) (E.state err.old) (E.state err.new) result.0 }
+    ensures built { (name file said : List ℕ) (files : List NamedFile) (created : NamedFile) → command_of (map string_bytes words.now) ≡ Some (build name file)
+        → (S.state shelf.old).holding.files ≡ Some files → (S.state shelf.old).holding.created ≡ Some created → (O.state out.old).bytes ≡ Some said
+        → result.0 ≡ 0 → Built files name file said (S.state shelf.new) (O.state out.new) }
     ensures words_refused { result.0 ≡ 2 → command_of (map string_bytes words.now) ≡ None }
     ensures not_plain { command_of (map string_bytes words.now) ≡ None → (result.0 ≡ 2) ⊎ (result.0 ≡ 8) }
     ensures read_fault { result.0 ≡ 4 → Rose (S.state shelf.old).load_faults (S.state shelf.new).load_faults }

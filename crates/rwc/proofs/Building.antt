@@ -1,0 +1,141 @@
+-- A build that ended with status 0 has created the canonical bytes of the lowered module, whole, and said so.
+use Rattle.std.proofs.Common.{◌≡◌, ◌≢◌, ◌⊎◌, inl, inr, ℕ, List, [], ◌∷◌, ◌++◌, length, refl, ap, sym, ◌∙◌, subst, arith, Ok, Err, None, Some}
+use Rattle.std.specs.declared.option.Option.{Option}
+use Rattle.std.specs.declared.result.Result.{Result}
+use Rattle.std.specs.Option.{option_map}
+use Rattle.std.specs.Io.KnownBytes.{append_known}
+use Rattle.wasm_ast.specs.declared.modules.WModule.{WModule}
+use Rattle.wasm_grammar.specs.CanonicalModules.{module_bytes}
+use Rattle.rw_types.specs.declared.modules.Module.{Module}
+use Rattle.rw_text.specs.Spells.{Spells}
+use Rattle.rich_meaning.specs.declared.notes.Note.{Note}
+use Rattle.rich_meaning.specs.Derivations.{IsTyped}
+use Rattle.rw_program.specs.Linking.{program_of}
+use Rattle.rw_program.specs.Modules.{TypedModule}
+use Rattle.rw_program.specs.Programs.{Program}
+use Rattle.lowering_table.specs.Modules.{low_module}
+use Rattle.rw_io.specs.Files.{NamedFile, content_of}
+use Rattle.rw_io.specs.States.{ShelfState, SinkState, Holding}
+use Rattle.rwc.specs.Acts.{Act, Seen, after_act, after_acts, seen_of}
+use Rattle.rwc.specs.Built.{Built}
+use Rattle.rwc.specs.Compiled.{Refused, default_pages, BinaryLeads, fits, too_long, CheckedLeads, ModuleLeads, refused, typed, TextLeads, not_read, spelled}
+use Rattle.rwc.specs.Endings.{Ends, whole, unwritten, no_memory, no_memory_within, Follows, Keeps, follows, unread, unbegun}
+use Rattle.rwc.specs.Lines.{wrote_line}
+use Rattle.rwc.specs.Reports.{Job, LoadLeads, BytesLead, ContentLeads, build_job, BuildReports}
+
+-- a refusal has a status of its own
+binary_status : (m : WModule) (r : Refused) → BinaryLeads m (Err r) → r.status ≢ 0
+binary_status m r (fits e b) zero = absurd cc
+binary_status m r (too_long id first b) zero = let s : r.status ≡ 11 = cc in absurd (omega arith)
+
+module_status : (file : List ℕ) (m : Module) (r : Refused) → ModuleLeads file m (Err r) → r.status ≢ 0
+module_status file m r (refused v first found expected b) zero = let s : r.status ≡ 1 = cc in absurd (omega arith)
+module_status file m r (typed notes t leads) zero = binary_status (low_module leads.program default_pages) r leads.leads zero
+
+text_status : (file bytes : List ℕ) (r : Refused) → TextLeads file bytes (Err r) → r.status ≢ 0
+text_status file bytes r (not_read none b) zero = let s : r.status ≡ 1 = cc in absurd (omega arith)
+text_status file bytes r (spelled m spells leads) zero = module_status file m r leads zero
+
+load_status : (file : List ℕ) (content : Option (List ℕ)) (r : Refused) → LoadLeads file content (Err r) → r.status ≢ 0
+load_status file None r e zero = let s : r.status ≡ 3 = cc in absurd (omega arith)
+load_status file (Some bytes) r (inl long) zero = let e = long.1 in let s : r.status ≡ 3 = cc in absurd (omega arith)
+load_status file (Some bytes) r (inr short) zero = let e = short.1 in absurd cc
+
+content_status : (file : List ℕ) (content : Option (List ℕ)) (r : Refused) → ContentLeads file content (Err r) → r.status ≢ 0
+content_status file content r (Ok bytes, load, leads) zero = text_status file bytes r leads zero
+content_status file content r (Err q, load, leads) zero = load_status file content q load (let e : q.status ≡ 0 = cc in e)
+
+-- what an accepted text leads to
+record Accepted (bytes binary : List ℕ) : Type 0 where
+  source : Module
+  spells : Spells bytes source
+  notes : List (List Note)
+  derived : IsTyped source notes
+  program : Program
+  linked : program_of (record { source = source; notes = notes }) ≡ Some program
+  is : binary ≡ module_bytes (low_module program default_pages)
+
+same_bytes : (a b : List ℕ) → (let r : Result (List ℕ) Refused = Ok a in r) ≡ Ok b → a ≡ b
+same_bytes a b e = cc
+
+binary_accepted : (m : WModule) (binary : List ℕ) → BinaryLeads m (Ok binary) → binary ≡ module_bytes m
+binary_accepted m binary (fits e b) = same_bytes _ _ b
+binary_accepted m binary (too_long id first b) = absurd cc
+
+module_accepted : (file bytes binary : List ℕ) (m : Module) → Spells bytes m → ModuleLeads file m (Ok binary) → Accepted bytes binary
+module_accepted file bytes binary m spells (refused v first found expected b) = absurd cc
+module_accepted file bytes binary m spells (typed notes t leads) = record {
+  source = m;
+  spells = spells;
+  notes = notes;
+  derived = t;
+  program = leads.program;
+  linked = leads.linked;
+  is = binary_accepted (low_module leads.program default_pages) binary leads.leads;
+}
+
+text_accepted : (file bytes binary : List ℕ) → TextLeads file bytes (Ok binary) → Accepted bytes binary
+text_accepted file bytes binary (not_read none b) = absurd cc
+text_accepted file bytes binary (spelled m spells leads) = module_accepted file bytes binary m spells leads
+
+-- a file whose text was accepted
+record AcceptedFile (content : Option (List ℕ)) (binary : List ℕ) : Type 0 where
+  bytes : List ℕ
+  is : content ≡ Some bytes
+  accepted : Accepted bytes binary
+
+content_accepted : (file : List ℕ) (content : Option (List ℕ)) (binary : List ℕ) → ContentLeads file content (Ok binary) → AcceptedFile content binary
+content_accepted file None binary (Ok bytes, load, leads) = absurd cc
+content_accepted file (Some content) binary (Ok bytes, inl long, leads) = let e = long.1 in absurd cc
+content_accepted file (Some content) binary (Ok bytes, inr short, leads) = record { bytes = bytes; is = ap (λ (b : List ℕ). Some b) (sym (same_bytes _ _ short.1)); accepted = text_accepted file bytes binary leads }
+content_accepted file content binary (Err q, load, leads) = absurd cc
+
+-- what stands after the acts of a build
+created_after : (name binary line : List ℕ) (created : NamedFile) (before after : Seen) → after ≡ after_acts (build_job name (Ok binary)).acts before → before.holding.created ≡ Some created →
+    after.holding.created ≡ Some (name, binary)
+created_after name binary line created before after e c =
+    ap (λ (s : Seen). s.holding.created) e
+    ∙ ap (λ (o : Option NamedFile). option_map (λ (f : NamedFile). (f.0, f.1 ++ binary)) (option_map (λ (_ : NamedFile). (name, [])) o)) c
+
+out_after : (name binary said : List ℕ) (before after : Seen) → after ≡ after_acts (build_job name (Ok binary)).acts before → before.out ≡ Some said →
+    after.out ≡ Some (said ++ wrote_line name (length binary))
+out_after name binary said before after e c = ap (λ (s : Seen). s.out) e ∙ ap (λ (o : Option (List ℕ)). append_known o (wrote_line name (length binary))) c
+
+finished : (files : List NamedFile) (name file said : List ℕ) (created : NamedFile) (shelf shelf' : ShelfState) (out out' : SinkState) (binary : Result (List ℕ) Refused) (done : List Act) →
+    ContentLeads file (content_of files file) binary → 0 ≡ (build_job name binary).status → done ≡ (build_job name binary).acts → seen_of shelf' out' ≡ after_acts done (seen_of shelf out) →
+    shelf.holding.created ≡ Some created → out.bytes ≡ Some said → Built files name file said shelf' out'
+finished files name file said created shelf shelf' out out' (Err r) done leads zero all seen told heard = absurd (content_status file (content_of files file) r leads (sym zero))
+finished files name file said created shelf shelf' out out' (Ok binary) done leads zero all seen told heard =
+    let a = content_accepted file (content_of files file) binary leads in
+    let s = seen ∙ ap (λ (acts : List Act). after_acts acts (seen_of shelf out)) all in
+    record {
+      bytes = a.bytes;
+      content = a.is;
+      source = a.accepted.source;
+      spelled = a.accepted.spells;
+      notes = a.accepted.notes;
+      typed = a.accepted.derived;
+      program = a.accepted.program;
+      linked = a.accepted.linked;
+      created = created_after name binary [] created (seen_of shelf out) (seen_of shelf' out') s told ∙ ap (λ (b : List ℕ). Some (name, b)) a.accepted.is;
+      told = out_after name binary said (seen_of shelf out) (seen_of shelf' out') s heard ∙ ap (λ (b : List ℕ). Some (said ++ wrote_line name (length b))) a.accepted.is;
+    }
+
+ended : (files : List NamedFile) (name file said : List ℕ) (created : NamedFile) (shelf shelf' : ShelfState) (out out' : SinkState) (job : Job) (status : ℕ) (line : List ℕ) (how : Follows job (seen_of shelf out) (seen_of shelf' out') status line) →
+    BuildReports name file files job → Ends job how.done status line → status ≡ 0 → shelf.holding.created ≡ Some created → out.bytes ≡ Some said → Built files name file said shelf' out'
+ended files name file said created shelf shelf' out out' job status line how is (whole all same says) zero told heard =
+    finished files name file said created shelf shelf' out out' is.0 how.done is.1 (sym zero ∙ same ∙ ap (λ (j : Job). j.status) is.2) (all ∙ ap (λ (j : Job). j.acts) is.2) how.seen told heard
+ended files name file said created shelf shelf' out out' job status line how is (unwritten left off five says) zero told heard = absurd (omega arith)
+ended files name file said created shelf shelf' out out' job status line how is (no_memory rest split eight says) zero told heard = absurd (omega arith)
+ended files name file said created shelf shelf' out out' job status line how is (no_memory_within left off eight says) zero told heard = absurd (omega arith)
+
+pub built : (files : List NamedFile) (name file said : List ℕ) (created : NamedFile) (shelf shelf' : ShelfState) (out out' : SinkState) (status : ℕ) (line : List ℕ) →
+    Keeps (BuildReports name file files) (seen_of shelf out) (seen_of shelf' out') status line → status ≡ 0 → shelf.holding.created ≡ Some created → out.bytes ≡ Some said → Built files name file said shelf' out'
+built files name file said created shelf shelf' out out' status line (follows job is how) zero told heard = ended files name file said created shelf shelf' out out' job status line how is how.ends zero told heard
+built files name file said created shelf shelf' out out' status line (unread f same four says) zero told heard = absurd (omega arith)
+built files name file said created shelf shelf' out out' status line (unbegun same eight says) zero told heard = absurd (omega arith)
+
+-- the status that was told is the one that is answered
+pub told_zero : (result status : ℕ) → (result ≡ status) ⊎ (result ≡ 8) → result ≡ 0 → status ≡ 0
+told_zero result status (inl same) zero = sym same ∙ zero
+told_zero result status (inr eight) zero = absurd (omega arith)
