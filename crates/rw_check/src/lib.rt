@@ -7,6 +7,3 @@ mod modules;
 
 pub use modules::check;
 pub use rw_program::{CheckError, Checked, Note, Place, Rule};
-
-#[cfg(test)]
-mod tests;

@@ -1,5 +1,5 @@
 -- The program of a file of one function, from the function and the notes that were taken off its lists.
-use Rattle.std.proofs.Common.{◌≡◌, ℕ, List, [], ◌∷◌, ◌++◌, Option, Some, length, drop, codes, refl, sym, ap, ◌∙◌, subst}
+use Rattle.std.proofs.Common.{◌≡◌, ℕ, List, [], ◌∷◌, ◌++◌, Option, Some, length, drop, codes, sym, ap, ◌∙◌, subst}
 use Rattle.rw_types.specs.declared.modules.FuncDef.{FuncDef}
 use Rattle.rw_types.specs.declared.modules.GlobalDef.{GlobalDef}
 use Rattle.rw_types.specs.declared.modules.Module.{Module}
@@ -9,7 +9,6 @@ use Rattle.rw_program.specs.declared.linked.LinkedFunc.{LinkedFunc}
 use Rattle.rw_program.specs.declared.linked.LinkedGlobal.{LinkedGlobal}
 use Rattle.rw_program.specs.Linking.{exported, linked_funcs, linked_globals, program_of, program_with}
 use Rattle.rw_program.specs.Modules.{TypedModule}
-use Rattle.rw_program.specs.Programs.{Program}
 
 -- the last of a list of one
 only : {A : Type 0} (xs : List A) {x y : A} → x ∷ [] ≡ xs ++ y ∷ [] → x ≡ y

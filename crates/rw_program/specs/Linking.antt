@@ -33,6 +33,6 @@ program_with funcs globals None = None
 -- the program of the first file alone, whose numbers stay as they are; none where it exports no `main`
 abbrev pub program_of : TypedModule → Option Program
 program_of file = program_with
-  (linked_funcs 0 file.source.funcs file.notes)
-  (linked_globals 0 file.source.globals (drop (length file.source.funcs) file.notes))
-  (exported (codes "main") file.source.exports)
+    (linked_funcs 0 file.source.funcs file.notes)
+    (linked_globals 0 file.source.globals (drop (length file.source.funcs) file.notes))
+    (exported (codes "main") file.source.exports)

@@ -1,10 +1,8 @@
 -- The map tells what the exports so far tell.
-use Rattle.std.proofs.Common.{◌≡◌, ℕ, ◌+◌, List, [], ◌∷◌, ◌++◌, Option, None, Bor, take, sym, ap, ◌∙◌, subst}
+use Rattle.std.proofs.Common.{◌≡◌, ◌+◌, [], ◌∷◌, ◌++◌, take, sym, ap, ◌∙◌}
 use Rattle.std.proofs.lemmas.List.{take_more}
-use Rattle.indexmap.specs.IndexMap.{get}
 use Rattle.rw_types.specs.declared.modules.ExportDef.{ExportDef}
-use Rattle.rw_program.specs.Linking.{exported}
-use Rattle.rw_link.proofs.ExportLists.{same_name, tells_new, tells_old}
+use Rattle.rw_link.proofs.ExportLists.{tells_new, tells_old}
 use Rattle.rw_link.proofs.exports.by_name.Goals as goal
 use Rattle.rw_link.proofs.exports.by_name.Goals.{then-not-contains_key+in_ok-insert, else-not-contains_key}
 
