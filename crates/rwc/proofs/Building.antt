@@ -21,29 +21,38 @@ use Rattle.rwc.specs.Built.{Built}
 use Rattle.rwc.specs.Compiled.{Refused, default_pages, BinaryLeads, fits, too_long, CheckedLeads, ModuleLeads, refused, typed, TextLeads, not_read, spelled}
 use Rattle.rwc.specs.Endings.{Ends, whole, unwritten, no_memory, no_memory_within, Follows, Keeps, follows, unread, unbegun}
 use Rattle.rwc.specs.Lines.{wrote_line}
+use Rattle.rwc.specs.Stops.{IsRefusal}
 use Rattle.rwc.specs.Reports.{Job, LoadLeads, BytesLead, ContentLeads, build_job, BuildReports}
 
+pub status_of_err : (a b : Refused) → (let r : Result (List ℕ) Refused = Err a in r) ≡ Err b → a.status ≡ b.status
+status_of_err a b e = let same : a ≡ b = cc in ap (λ (r : Refused). r.status) same
+
 -- a refusal has a status of its own
-binary_status : (m : WModule) (r : Refused) → BinaryLeads m (Err r) → r.status ≢ 0
-binary_status m r (fits e b) zero = absurd cc
-binary_status m r (too_long id first b) zero = let s : r.status ≡ 11 = cc in absurd (omega arith)
+pub binary_status : (m : WModule) (r : Refused) → BinaryLeads m (Err r) → r.status ≡ 11
+binary_status m r (fits e b) = absurd cc
+binary_status m r (too_long id first b) = status_of_err _ _ b
 
-module_status : (file : List ℕ) (m : Module) (r : Refused) → ModuleLeads file m (Err r) → r.status ≢ 0
-module_status file m r (refused v first found expected b) zero = let s : r.status ≡ 1 = cc in absurd (omega arith)
-module_status file m r (typed notes t leads) zero = binary_status (low_module leads.program default_pages) r leads.leads zero
+module_status : (file : List ℕ) (m : Module) (r : Refused) → ModuleLeads file m (Err r) → IsRefusal r.status
+module_status file m r (refused v first found expected b) = inl (status_of_err _ _ b)
+module_status file m r (typed notes t leads) = inr (inr (binary_status (low_module leads.program default_pages) r leads.leads))
 
-text_status : (file bytes : List ℕ) (r : Refused) → TextLeads file bytes (Err r) → r.status ≢ 0
-text_status file bytes r (not_read none b) zero = let s : r.status ≡ 1 = cc in absurd (omega arith)
-text_status file bytes r (spelled m spells leads) zero = module_status file m r leads zero
+text_status : (file bytes : List ℕ) (r : Refused) → TextLeads file bytes (Err r) → IsRefusal r.status
+text_status file bytes r (not_read none b) = inl (status_of_err _ _ b)
+text_status file bytes r (spelled m spells leads) = module_status file m r leads
 
-load_status : (file : List ℕ) (content : Option (List ℕ)) (r : Refused) → LoadLeads file content (Err r) → r.status ≢ 0
-load_status file None r e zero = let s : r.status ≡ 3 = cc in absurd (omega arith)
-load_status file (Some bytes) r (inl long) zero = let e = long.1 in let s : r.status ≡ 3 = cc in absurd (omega arith)
-load_status file (Some bytes) r (inr short) zero = let e = short.1 in absurd cc
+pub load_status : (file : List ℕ) (content : Option (List ℕ)) (r : Refused) → LoadLeads file content (Err r) → r.status ≡ 3
+load_status file None r e = status_of_err _ _ e
+load_status file (Some bytes) r (inl long) = status_of_err _ _ long.1
+load_status file (Some bytes) r (inr short) = let e = short.1 in absurd cc
 
-content_status : (file : List ℕ) (content : Option (List ℕ)) (r : Refused) → ContentLeads file content (Err r) → r.status ≢ 0
-content_status file content r (Ok bytes, load, leads) zero = text_status file bytes r leads zero
-content_status file content r (Err q, load, leads) zero = load_status file content q load (let e : q.status ≡ 0 = cc in e)
+pub content_status : (file : List ℕ) (content : Option (List ℕ)) (r : Refused) → ContentLeads file content (Err r) → IsRefusal r.status
+content_status file content r (Ok bytes, load, leads) = text_status file bytes r leads
+content_status file content r (Err q, load, leads) = inr (inl (status_of_err _ _ leads ∙ load_status file content q load))
+
+not_zero : (status : ℕ) → IsRefusal status → status ≢ 0
+not_zero status (inl one) zero = absurd (omega arith)
+not_zero status (inr (inl three)) zero = absurd (omega arith)
+not_zero status (inr (inr eleven)) zero = absurd (omega arith)
 
 -- what an accepted text leads to
 record Accepted (bytes binary : List ℕ) : Type 0 where
@@ -55,7 +64,7 @@ record Accepted (bytes binary : List ℕ) : Type 0 where
   linked : program_of (record { source = source; notes = notes }) ≡ Some program
   is : binary ≡ module_bytes (low_module program default_pages)
 
-same_bytes : (a b : List ℕ) → (let r : Result (List ℕ) Refused = Ok a in r) ≡ Ok b → a ≡ b
+pub same_bytes : (a b : List ℕ) → (let r : Result (List ℕ) Refused = Ok a in r) ≡ Ok b → a ≡ b
 same_bytes a b e = cc
 
 binary_accepted : (m : WModule) (binary : List ℕ) → BinaryLeads m (Ok binary) → binary ≡ module_bytes m
@@ -104,7 +113,7 @@ out_after name binary said before after e c = ap (λ (s : Seen). s.out) e ∙ ap
 finished : (files : List NamedFile) (name file said : List ℕ) (created : NamedFile) (shelf shelf' : ShelfState) (out out' : SinkState) (binary : Result (List ℕ) Refused) (done : List Act) →
     ContentLeads file (content_of files file) binary → 0 ≡ (build_job name binary).status → done ≡ (build_job name binary).acts → seen_of shelf' out' ≡ after_acts done (seen_of shelf out) →
     shelf.holding.created ≡ Some created → out.bytes ≡ Some said → Built files name file said shelf' out'
-finished files name file said created shelf shelf' out out' (Err r) done leads zero all seen told heard = absurd (content_status file (content_of files file) r leads (sym zero))
+finished files name file said created shelf shelf' out out' (Err r) done leads zero all seen told heard = absurd (not_zero r.status (content_status file (content_of files file) r leads) (sym zero))
 finished files name file said created shelf shelf' out out' (Ok binary) done leads zero all seen told heard =
     let a = content_accepted file (content_of files file) binary leads in
     let s = seen ∙ ap (λ (acts : List Act). after_acts acts (seen_of shelf out)) all in

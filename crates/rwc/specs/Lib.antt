@@ -9,3 +9,4 @@ pub mod Stops
 pub mod Outcomes
 pub mod Refusals
 pub mod Built
+pub mod Answers

@@ -4,6 +4,7 @@
 mod build;
 mod compile;
 mod ending;
+mod laws;
 mod lines;
 mod perform;
 mod refusals;
@@ -12,4 +13,5 @@ mod top;
 mod words;
 
 pub use ending::Status;
+pub use laws::one_report;
 pub use top::rwc;

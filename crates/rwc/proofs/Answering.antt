@@ -1,0 +1,207 @@
+-- What each answer of a call says and leaves, from how it kept to its job.
+use Rattle.std.proofs.Common.{◌≡◌, ◌≢◌, ◌≤◌, ◌<◌, ◌⊎◌, inl, inr, ℕ, ◌+◌, ◌-◌, List, [], ◌∷◌, ◌++◌, length, take, drop, refl, ap, sym, ◌∙◌, subst, arith, append_assoc, lit≤, Ok, Err, None, Some}
+use Rattle.std.proofs.Math.Seq.{take-append_seam}
+use Rattle.std.proofs.lemmas.List.{append-nil, take-drop}
+use Rattle.std.specs.declared.option.Option.{Option}
+use Rattle.std.specs.declared.result.Result.{Result}
+use Rattle.std.specs.Io.KnownBytes.{append_known}
+use Rattle.rw_types.specs.declared.modules.Module.{Module}
+use Rattle.rw_io.specs.Files.{NamedFile, content_of}
+use Rattle.rwc.specs.Acts.{Act, create, append, put, Seen, after_act, after_acts, IsPart, BreaksOff}
+use Rattle.rwc.specs.Answers.{text_of, PutsText, HasStatus, IsUnloadable, IsRefused}
+use Rattle.rwc.specs.Compiled.{Refused, BinaryLeads, ModuleLeads, refused, typed, TextLeads, not_read, spelled}
+use Rattle.rwc.specs.Endings.{Ends, whole, unwritten, no_memory, no_memory_within, Follows, Keeps, follows, unread, unbegun}
+use Rattle.rwc.specs.Reports.{Job, LoadLeads, BytesLead, ContentLeads, build_job, BuildReports, CommandReports}
+use Rattle.rwc.specs.Stops.{IsRefusal}
+use Rattle.rwc.specs.Words.{Command, build, command_of}
+use Rattle.rwc.proofs.Building.{content_status, binary_status, load_status, status_of_err, same_bytes}
+
+text_of-append : (xs ys : List Act) → text_of (xs ++ ys) ≡ text_of xs ++ text_of ys
+text_of-append [] ys = refl
+text_of-append (create name ∷ xs) ys = text_of-append xs ys
+text_of-append (append piece ∷ xs) ys = text_of-append xs ys
+text_of-append (put piece ∷ xs) ys = ap (λ (t : List ℕ). piece ++ t) (text_of-append xs ys) ∙ sym (append_assoc piece (text_of xs) (text_of ys))
+
+append_known_nothing : (bytes : Option (List ℕ)) → bytes ≡ append_known bytes []
+append_known_nothing None = refl
+append_known_nothing (Some xs) = ap (λ (b : List ℕ). Some b) (sym (append-nil xs))
+
+append_known_twice : (known : Option (List ℕ)) (xs ys : List ℕ) → append_known (append_known known xs) ys ≡ append_known known (xs ++ ys)
+append_known_twice None xs ys = refl
+append_known_twice (Some bytes) xs ys = ap (λ (b : List ℕ). Some b) (append_assoc bytes xs ys)
+
+-- what acts leave on standard output
+out_after : (acts : List Act) (seen : Seen) → (after_acts acts seen).out ≡ append_known seen.out (text_of acts)
+out_after [] seen = append_known_nothing seen.out
+out_after (create name ∷ acts) seen = out_after acts (after_act (create name) seen)
+out_after (append piece ∷ acts) seen = out_after acts (after_act (append piece) seen)
+out_after (put piece ∷ acts) seen = out_after acts (after_act (put piece) seen) ∙ append_known_twice seen.out piece (text_of acts)
+
+-- the text of these acts is a front of that text
+record IsFront (done : List Act) (text : List ℕ) : Type 0 where
+  rest : List ℕ
+  is : text ≡ text_of done ++ rest
+
+part_front : (act : Act) (part : List Act) (left : ℕ) → IsPart act part left → IsFront part (text_of (act ∷ []))
+part_front (create name) part left is = record { rest = []; is = let e : text_of part ≡ [] = ap text_of is.0 in ap (λ (t : List ℕ). t ++ []) (sym e) }
+part_front (append piece) part left is = record { rest = []; is = let e : text_of part ≡ [] = ap text_of is.2 in ap (λ (t : List ℕ). t ++ []) (sym e) }
+part_front (put piece) part left is =
+    let n = length piece - left in
+    let e : text_of part ≡ take n piece ++ [] = ap text_of is.2 in
+    record { rest = drop n piece; is = append-nil piece ∙ sym (take-drop n piece) ∙ ap (λ (t : List ℕ). t ++ drop n piece) (sym (append-nil (take n piece)) ∙ sym e) }
+
+off_front : (acts done : List Act) (left : ℕ) → BreaksOff acts done left → IsFront done (text_of acts)
+off_front acts done left off =
+    let p = part_front off.act off.part left off.is_part in
+    record {
+      rest = p.rest ++ text_of off.after;
+      is = ap text_of off.split ∙ text_of-append off.before (off.act ∷ off.after)
+          ∙ ap (λ (t : List ℕ). text_of off.before ++ t) (text_of-append (off.act ∷ []) off.after ∙ ap (λ (t : List ℕ). t ++ text_of off.after) p.is ∙ append_assoc (text_of off.part) p.rest (text_of off.after))
+          ∙ sym (append_assoc (text_of off.before) (text_of off.part) (p.rest ++ text_of off.after))
+          ∙ ap (λ (t : List ℕ). t ++ (p.rest ++ text_of off.after)) (sym (text_of-append off.before off.part) ∙ ap text_of (sym off.done_is));
+    }
+
+front_is : (done : List Act) (text : List ℕ) → IsFront done text → text_of done ≡ take (length (text_of done)) text
+front_is done text f = sym (take-append_seam (text_of done) f.rest) ∙ ap (take (length (text_of done))) (sym f.is)
+
+not_status : (result status n : ℕ) → (result ≡ status) ⊎ (result ≡ 8) → (status ≡ n → ⊥) → n ≢ 8 → result ≡ n → ⊥
+not_status result status n (inl same) f k e = f (sym same ∙ e)
+not_status result status n (inr eight) f k e = k (sym e ∙ eight)
+
+puts : (job : Job) (done : List Act) (status result : ℕ) (line : List ℕ) (out out' : Option (List ℕ)) → Ends job done status line → out' ≡ append_known out (text_of done) →
+    (result ≡ status) ⊎ (result ≡ 8) → (job.status ≡ 4 → ⊥) → PutsText (text_of job.acts) out out' result
+puts job done status result line out out' (whole all same says) seen told not_four = record {
+  count = length (text_of done);
+  put = seen ∙ ap (append_known out) (front_is done (text_of job.acts) (record { rest = []; is = sym (append-nil (text_of job.acts)) ∙ ap (λ (acts : List Act). text_of acts ++ []) (sym all) }));
+  none = λ four. absurd (not_status result status 4 told (λ e. not_four (sym same ∙ e)) (λ e. omega arith) four);
+  whole = λ _ _ _. omega (arith, ap (λ (acts : List Act). length (text_of acts)) all);
+}
+puts job done status result line out out' (unwritten left off five says) seen told not_four = record {
+  count = length (text_of done);
+  put = seen ∙ ap (append_known out) (front_is done (text_of job.acts) (off_front job.acts done left off));
+  none = λ four. absurd (not_status result status 4 told (λ e. omega arith) (λ e. omega arith) four);
+  whole = λ _ not_five not_eight. absurd (elim told [ inl same ↦ not_five (same ∙ five) | inr eight ↦ not_eight eight ]);
+}
+puts job done status result line out out' (no_memory rest split eight says) seen told not_four = record {
+  count = length (text_of done);
+  put = seen ∙ ap (append_known out) (front_is done (text_of job.acts) (record { rest = text_of rest; is = ap text_of split ∙ text_of-append done rest }));
+  none = λ four. absurd (not_status result status 4 told (λ e. omega arith) (λ e. omega arith) four);
+  whole = λ _ _ not_eight. absurd (elim told [ inl same ↦ not_eight (same ∙ eight) | inr e ↦ not_eight e ]);
+}
+puts job done status result line out out' (no_memory_within left off eight says) seen told not_four = record {
+  count = length (text_of done);
+  put = seen ∙ ap (append_known out) (front_is done (text_of job.acts) (off_front job.acts done left off));
+  none = λ four. absurd (not_status result status 4 told (λ e. omega arith) (λ e. omega arith) four);
+  whole = λ _ _ not_eight. absurd (elim told [ inl same ↦ not_eight (same ∙ eight) | inr e ↦ not_eight e ]);
+}
+
+nothing_put : (text : List ℕ) (out out' : Option (List ℕ)) (result : ℕ) → out' ≡ out → (result ≡ 4) ⊎ (result ≡ 8) → PutsText text out out' result
+nothing_put text out out' result same which = record {
+  count = 0;
+  put = same ∙ append_known_nothing out;
+  none = λ _. refl;
+  whole = λ not_four _ not_eight. absurd (elim which [ inl four ↦ not_four four | inr eight ↦ not_eight eight ]);
+}
+
+-- the text of a job, where only one is right
+pub keeps_text : (Jobs : Job → Type 0) (one : (a b : Job) → Jobs a → Jobs b → a ≡ b) (job : Job) → Jobs job → (job.status ≡ 4 → ⊥) → (before after : Seen) (status result : ℕ) (line : List ℕ) →
+    Keeps Jobs before after status line → (result ≡ status) ⊎ (result ≡ 8) → PutsText (text_of job.acts) before.out after.out result
+keeps_text Jobs one job right not_four before after status result line (follows other is how) told =
+    subst (λ (j : Job). PutsText (text_of j.acts) before.out after.out result) (one other job is right)
+        (puts other how.done status result line before.out after.out how.ends (ap (λ (s : Seen). s.out) how.seen ∙ out_after how.done before) told
+            (λ four. not_four (ap (λ (j : Job). j.status) (one job other right is) ∙ four)))
+keeps_text Jobs one job right not_four before after status result line (unread file same four says) told =
+    nothing_put _ _ _ result (ap (λ (s : Seen). s.out) same) (elim told [ inl e ↦ inl (e ∙ four) | inr eight ↦ inr eight ])
+keeps_text Jobs one job right not_four before after status result line (unbegun same eight says) told =
+    nothing_put _ _ _ result (ap (λ (s : Seen). s.out) same) (elim told [ inl e ↦ inr (e ∙ eight) | inr e ↦ inr e ])
+
+-- no job is reported with status 4
+pub never_four : (command : Option Command) (files : List NamedFile) (job : Job) → CommandReports command files job → job.status ≡ 4 → ⊥
+never_four None files job is four = let e : job.status ≡ 2 = ap (λ (j : Job). j.status) is in omega arith
+never_four (Some (build name file)) files job (Ok binary, leads, is) four = let e : job.status ≡ 0 = ap (λ (j : Job). j.status) is in omega arith
+never_four (Some (build name file)) files job (Err r, leads, is) four = refusal_not_four r.status (content_status file (content_of files file) r leads) (sym (ap (λ (j : Job). j.status) is) ∙ four)
+  where
+    refusal_not_four : (status : ℕ) → IsRefusal status → status ≡ 4 → ⊥
+    refusal_not_four status (inl one) e = omega arith
+    refusal_not_four status (inr (inl three)) e = omega arith
+    refusal_not_four status (inr (inr eleven)) e = omega arith
+
+ends_complete : (job : Job) (done : List Act) (status result : ℕ) (line : List ℕ) → Ends job done status line → (result ≡ status) ⊎ (result ≡ 8) → (result ≡ 5 → ⊥) → (result ≡ job.status) ⊎ (result ≡ 8)
+ends_complete job done status result line ends (inr eight) no_write = inr eight
+ends_complete job done status result line (whole all same says) (inl e) no_write = inl (e ∙ same)
+ends_complete job done status result line (unwritten left off five says) (inl e) no_write = absurd (no_write (e ∙ five))
+ends_complete job done status result line (no_memory rest split eight says) (inl e) no_write = inr (e ∙ eight)
+ends_complete job done status result line (no_memory_within left off eight says) (inl e) no_write = inr (e ∙ eight)
+
+-- where nothing fails the status is the job's, or memory was wanting
+pub complete : (Jobs : Job → Type 0) (one : (a b : Job) → Jobs a → Jobs b → a ≡ b) (job : Job) → Jobs job → (before after : Seen) (status result : ℕ) (line : List ℕ) →
+    Keeps Jobs before after status line → (result ≡ status) ⊎ (result ≡ 8) → (result ≡ 4 → ⊥) → (result ≡ 5 → ⊥) → (result ≡ job.status) ⊎ (result ≡ 8)
+complete Jobs one job right before after status result line (follows other is how) told no_read no_write =
+    subst (λ (j : Job). (result ≡ j.status) ⊎ (result ≡ 8)) (one other job is right) (ends_complete other how.done status result line how.ends told no_write)
+complete Jobs one job right before after status result line (unread file same four says) (inl e) no_read no_write = absurd (no_read (e ∙ four))
+complete Jobs one job right before after status result line (unread file same four says) (inr eight) no_read no_write = inr eight
+complete Jobs one job right before after status result line (unbegun same eight says) (inl e) no_read no_write = inr (e ∙ eight)
+complete Jobs one job right before after status result line (unbegun same eight says) (inr e) no_read no_write = inr e
+
+-- a job that has this status
+record HasJob (Jobs : Job → Type 0) (status : ℕ) : Type 0 where
+  job : Job
+  right : Jobs job
+  is : status ≡ job.status
+
+job_of : (Jobs : Job → Type 0) (before after : Seen) (status result : ℕ) (line : List ℕ) → Keeps Jobs before after status line → (result ≡ status) ⊎ (result ≡ 8) →
+    (result ≡ 4 → ⊥) → (result ≡ 5 → ⊥) → (result ≡ 8 → ⊥) → HasJob Jobs result
+job_of Jobs before after status result line (follows job is how) told no_read no_write no_memory =
+    record { job = job; right = is; is = elim (ends_complete job how.done status result line how.ends told no_write) [ inl e ↦ e | inr eight ↦ absurd (no_memory eight) ] }
+job_of Jobs before after status result line (unread file same four says) told no_read no_write no_memory = absurd (elim told [ inl e ↦ no_read (e ∙ four) | inr eight ↦ no_memory eight ])
+job_of Jobs before after status result line (unbegun same eight says) told no_read no_write no_memory = absurd (elim told [ inl e ↦ no_memory (e ∙ eight) | inr e ↦ no_memory e ])
+
+-- a status other than 4, 5 and 8 is that of a job which words and files report
+pub reported : (words : List (List ℕ)) (files : List NamedFile) (before after : Seen) (status result : ℕ) (line : List ℕ) → Keeps (λ job. CommandReports (command_of words) files job) before after status line →
+    (result ≡ status) ⊎ (result ≡ 8) → result ≢ 4 → result ≢ 5 → result ≢ 8 → HasStatus words files result
+reported words files before after status result line keeps told no_read no_write no_memory =
+    let h = job_of (λ job. CommandReports (command_of words) files job) before after status result line keeps told no_read no_write no_memory in
+    record { job = h.job; reported = h.right; is = h.is }
+
+text_refused : (file bytes : List ℕ) (r : Refused) → TextLeads file bytes (Err r) → r.status ≡ 1 → IsRefused (Some bytes)
+text_refused file bytes r (not_read none b) one = record { bytes = bytes; is = refl; why = inl none }
+text_refused file bytes r (spelled m spells (refused v first found expected b)) one = record { bytes = bytes; is = refl; why = inr (m, spells, v, first) }
+text_refused file bytes r (spelled m spells (typed notes t leads)) one = absurd (omega (arith, binary_status _ r leads.leads))
+
+content_refused : (file : List ℕ) (content : Option (List ℕ)) (r : Refused) → ContentLeads file content (Err r) → r.status ≡ 1 → IsRefused content
+content_refused file None r (Ok bytes, load, leads) one = absurd cc
+content_refused file (Some content) r (Ok bytes, inl long, leads) one = let e = long.1 in absurd cc
+content_refused file (Some content) r (Ok bytes, inr short, leads) one =
+    subst (λ (b : List ℕ). IsRefused (Some b)) (same_bytes bytes content short.1) (text_refused file bytes r leads one)
+content_refused file content r (Err q, load, leads) one = absurd (omega (arith, one, status_of_err r q leads, load_status file content q load))
+
+text_one_or_eleven : (file bytes : List ℕ) (r : Refused) → TextLeads file bytes (Err r) → (r.status ≡ 1) ⊎ (r.status ≡ 11)
+text_one_or_eleven file bytes r (not_read none b) = inl (status_of_err _ _ b)
+text_one_or_eleven file bytes r (spelled m spells (refused v first found expected b)) = inl (status_of_err _ _ b)
+text_one_or_eleven file bytes r (spelled m spells (typed notes t leads)) = inr (binary_status _ r leads.leads)
+
+not_three : (status : ℕ) → (status ≡ 1) ⊎ (status ≡ 11) → status ≡ 3 → ⊥
+not_three status (inl one) e = omega arith
+not_three status (inr eleven) e = omega arith
+
+content_unloadable : (file : List ℕ) (content : Option (List ℕ)) (r : Refused) → ContentLeads file content (Err r) → r.status ≡ 3 → IsUnloadable content
+content_unloadable file None r leads three = tt
+content_unloadable file (Some content) r (Ok bytes, load, leads) three = absurd (not_three r.status (text_one_or_eleven file bytes r leads) three)
+content_unloadable file (Some content) r (Err q, inl long, leads) three = long.0
+content_unloadable file (Some content) r (Err q, inr short, leads) three = let e = short.1 in absurd cc
+
+build_refused : (name file : List ℕ) (files : List NamedFile) (job : Job) → BuildReports name file files job → job.status ≡ 1 → IsRefused (content_of files file)
+build_refused name file files job (Ok binary, leads, is) one = let e : job.status ≡ 0 = ap (λ (j : Job). j.status) is in absurd (omega arith)
+build_refused name file files job (Err r, leads, is) one = content_refused file (content_of files file) r leads (sym (ap (λ (j : Job). j.status) is) ∙ one)
+
+build_unloadable : (name file : List ℕ) (files : List NamedFile) (job : Job) → BuildReports name file files job → job.status ≡ 3 → IsUnloadable (content_of files file)
+build_unloadable name file files job (Ok binary, leads, is) three = let e : job.status ≡ 0 = ap (λ (j : Job). j.status) is in absurd (omega arith)
+build_unloadable name file files job (Err r, leads, is) three = content_unloadable file (content_of files file) r leads (sym (ap (λ (j : Job). j.status) is) ∙ three)
+
+pub why_refused : (name file : List ℕ) (words : List (List ℕ)) (files : List NamedFile) (status : ℕ) → command_of words ≡ Some (build name file) → HasStatus words files status → status ≡ 1 → IsRefused (content_of files file)
+why_refused name file words files status spells h one =
+    build_refused name file files h.job (subst (λ (command : Option Command). CommandReports command files h.job) spells h.reported) (sym h.is ∙ one)
+
+pub why_unloadable : (name file : List ℕ) (words : List (List ℕ)) (files : List NamedFile) (status : ℕ) → command_of words ≡ Some (build name file) → HasStatus words files status → status ≡ 3 → IsUnloadable (content_of files file)
+why_unloadable name file words files status spells h three =
+    build_unloadable name file files h.job (subst (λ (command : Option Command). CommandReports command files h.job) spells h.reported) (sym h.is ∙ three)

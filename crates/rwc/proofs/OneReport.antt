@@ -1,0 +1,92 @@
+-- Words and files report one job: each step of the way to it is a function.
+use Rattle.std.proofs.Common.{◌≡◌, ◌≢◌, ◌⊎◌, inl, inr, ℕ, ◌+◌, ◌<◌, ◌≤◌, ◌^◌, List, [], ◌∷◌, length, refl, ap, sym, ◌∙◌, subst, arith, Ok, Err, None, Some}
+use Rattle.std.specs.declared.option.Option.{Option}
+use Rattle.std.specs.declared.result.Result.{Result}
+use Rattle.wasm_ast.specs.declared.modules.WModule.{WModule}
+use Rattle.wasm_grammar.specs.CanonicalModules.{content_of as section_content}
+use Rattle.wasm_encode.specs.Contents.{IsFirstTooLong}
+use Rattle.rw_types.specs.declared.modules.Module.{Module}
+use Rattle.rw_text.specs.Spells.{Spells}
+use Rattle.rw_text.proofs.Whole.{one_module}
+use Rattle.rich_meaning.specs.declared.notes.Note.{Note}
+use Rattle.rich_meaning.specs.Violations.{Violation}
+use Rattle.rich_meaning.proofs.LoneModules.{one_derivation, module_never_both, one_violation}
+use Rattle.rw_program.specs.Modules.{TypedModule}
+use Rattle.rw_program.specs.Programs.{Program}
+use Rattle.lowering_table.specs.Modules.{low_module}
+use Rattle.rw_io.specs.Files.{NamedFile, content_of}
+use Rattle.rwc.specs.Answers.{OneReport}
+use Rattle.rwc.specs.Compiled.{Refused, default_pages, BinaryLeads, fits, too_long, CheckedLeads, ModuleLeads, refused, typed, TextLeads, not_read, spelled}
+use Rattle.rwc.specs.Lines.{too_many_line}
+use Rattle.rwc.specs.Refusals.{refused_line}
+use Rattle.rwc.specs.Reports.{Job, LoadLeads, BytesLead, ContentLeads, build_job, BuildReports, CommandReports}
+use Rattle.rwc.specs.Words.{Command, build, command_of}
+
+abbrev Leads : Type 0
+Leads = Result (List ℕ) Refused
+
+no_section : (m : WModule) (i : ℕ) → length (section_content i m) < 2 ^ 32 → 2 ^ 32 ≤ length (section_content i m) → ⊥
+no_section m i small large = omega arith
+
+first_one : (m : WModule) (i j : ℕ) → IsFirstTooLong m i → IsFirstTooLong m j → i ≡ j
+first_one m i j a b = least i j (λ lt. no_section m i (b.1 i lt) a.0) (λ lt. no_section m j (a.1 j lt) b.0)
+  where
+    least : (i j : ℕ) → (i < j → ⊥) → (j < i → ⊥) → i ≡ j
+    least i j n k = omega (arith, n, k)
+
+binary_one : (m : WModule) (a b : Leads) → BinaryLeads m a → BinaryLeads m b → a ≡ b
+binary_one m a b (fits e x) (fits f y) = x ∙ sym y
+binary_one m a b (fits e x) (too_long i first y) = absurd (no_section m i (e i) first.0)
+binary_one m a b (too_long i first x) (fits e y) = absurd (no_section m i (e i) first.0)
+binary_one m a b (too_long i first x) (too_long j second y) =
+    x ∙ ap (λ (n : ℕ). let r : Leads = Err (record { status = 11; line = too_many_line n }) in r) (first_one m i j first second) ∙ sym y
+
+checked_one : (file : TypedModule) (a b : Leads) → CheckedLeads file a → CheckedLeads file b → a ≡ b
+checked_one file a b h k =
+    let e : k.program ≡ h.program = same_program k.program h.program (sym k.linked ∙ h.linked) in
+    binary_one (low_module h.program default_pages) a b h.leads (subst (λ (p : Program). BinaryLeads (low_module p default_pages) b) e k.leads)
+  where
+    same_program : (p q : Program) → Some p ≡ Some q → p ≡ q
+    same_program p q e = cc
+
+module_one : (file : List ℕ) (m : Module) (a b : Leads) → ModuleLeads file m a → ModuleLeads file m b → a ≡ b
+module_one file m a b (refused v first f e x) (refused w second g h y) =
+    x ∙ ap (λ (u : Violation). let r : Leads = Err (record { status = 1; line = refused_line file u.place u.broken }) in r) (one_violation m v w first second) ∙ sym y
+module_one file m a b (refused v first f e x) (typed notes t leads) = absurd (module_never_both m notes v t first)
+module_one file m a b (typed notes t leads) (refused v first f e x) = absurd (module_never_both m notes v t first)
+module_one file m a b (typed notes t leads) (typed others u more) =
+    checked_one (record { source = m; notes = notes }) a b leads
+        (subst (λ (n : List (List Note)). CheckedLeads (record { source = m; notes = n }) b) (one_derivation m others notes u t) more)
+
+text_one : (file bytes : List ℕ) (a b : Leads) → TextLeads file bytes a → TextLeads file bytes b → a ≡ b
+text_one file bytes a b (not_read none x) (not_read nothing y) = x ∙ sym y
+text_one file bytes a b (not_read none x) (spelled m spells leads) = absurd (none m spells)
+text_one file bytes a b (spelled m spells leads) (not_read none x) = absurd (none m spells)
+text_one file bytes a b (spelled m spells leads) (spelled n others more) =
+    module_one file m a b leads (subst (λ (k : Module). ModuleLeads file k b) (one_module bytes n m others spells) more)
+
+load_one : (file : List ℕ) (content : Option (List ℕ)) (a b : Leads) → LoadLeads file content a → LoadLeads file content b → a ≡ b
+load_one file None a b x y = x ∙ sym y
+load_one file (Some bytes) a b (inl x) (inl y) = x.1 ∙ sym y.1
+load_one file (Some bytes) a b (inl x) (inr y) = absurd (omega (arith, x.0, y.0))
+load_one file (Some bytes) a b (inr x) (inl y) = absurd (omega (arith, x.0, y.0))
+load_one file (Some bytes) a b (inr x) (inr y) = x.1 ∙ sym y.1
+
+bytes_one : (file : List ℕ) (bytes a b : Leads) → BytesLead file bytes a → BytesLead file bytes b → a ≡ b
+bytes_one file (Ok bytes) a b x y = text_one file bytes a b x y
+bytes_one file (Err r) a b x y = x ∙ sym y
+
+content_one : (file : List ℕ) (content : Option (List ℕ)) (a b : Leads) → ContentLeads file content a → ContentLeads file content b → a ≡ b
+content_one file content a b (x, load, leads) (y, other, more) =
+    bytes_one file x a b leads (subst (λ (z : Leads). BytesLead file z b) (load_one file content y x other load) more)
+
+build_one : (name file : List ℕ) (files : List NamedFile) (a b : Job) → BuildReports name file files a → BuildReports name file files b → a ≡ b
+build_one name file files a b (x, leads, is) (y, more, also) =
+    is ∙ ap (build_job name) (content_one file (content_of files file) x y leads more) ∙ sym also
+
+command_one : (command : Option Command) (files : List NamedFile) (a b : Job) → CommandReports command files a → CommandReports command files b → a ≡ b
+command_one None files a b x y = x ∙ sym y
+command_one (Some (build name file)) files a b x y = build_one name file files a b x y
+
+pub one_report : OneReport
+one_report words files a b x y = command_one (command_of words) files a b x y
