@@ -2,3 +2,4 @@ pub mod Lists
 pub mod Derived
 pub mod Lowered
 pub mod Nested
+pub mod Fitting
