@@ -1,15 +1,13 @@
 -- The lowered module of a program of one plain function is in the profile.
 use Rattle.std.proofs.Common.{◌≡◌, ℕ, zero, suc, ◌+◌, ◌*◌, ◌-◌, ◌^◌, ◌<◌, ◌≤◌, List, [], ◌∷◌, ◌++◌, length, All, refl, ap, sym, subst, arith, lit<, lit≤, append_assoc, length-append}
-use Rattle.std.specs.Prelude.{codes, IsUtf8}
+use Rattle.std.specs.Prelude.{codes}
 use Rattle.std.specs.Int.{byte_at, bytes_low_first, to_le_bytes, w64}
 use Rattle.std.proofs.lemmas.List.Elements.{All-from_recursion, All-cons, All-nil, All-append}
 use Rattle.wasm_ast.specs.declared.instructions.WInstr as w
 use Rattle.wasm_ast.specs.declared.instructions.WInstr.TheOpen.{WInstr-F}
 use Rattle.wasm_ast.specs.declared.instructions.WInstr.TheVariants.{rolls-LocalGet, rolls-LocalSet, rolls-GlobalGet, rolls-GlobalSet, rolls-Call, rolls-I64Const, rolls-I32Const, rolls-I64Add, rolls-Nop, rolls-Unreachable}
 use Rattle.wasm_ast.specs.declared.types.ValTy.TheVariants.{I64}
-use Rattle.wasm_ast.specs.declared.modules.Code.{Code}
 use Rattle.wasm_ast.specs.declared.modules.LocalRun.{LocalRun}
-use Rattle.wasm_ast.specs.declared.modules.WModule.{WModule}
 use Rattle.wasm_grammar.specs.ProfileInstructions.{FitsU32, IsShortListOf, InstructionFits, InstructionsFit, ConstantFits, none_fit, more_fit}
 use Rattle.wasm_grammar.specs.Profile.{page_limit, entry_limit, FuncTypeFits, LimitsFit, ImportFits, GlobalFits, ExportFits, ElementFits, SegmentFits, NameFits, CodeFits, IsInProfile}
 use Rattle.wasm_spelling.proofs.KnownInstructions.{known_fits, known_constant, one, empty}
@@ -17,12 +15,11 @@ use Rattle.rw_types.specs.declared.instrs.Instr.{Instr, I64Const, Num, Print, Dr
 use Rattle.rw_types.specs.declared.numbers.NumName.TheVariants.{I64Add}
 use Rattle.rw_types.specs.LoneMain.{IsPlain, ArePlain}
 use Rattle.rich_meaning.specs.declared.notes.Note.{Note}
-use Rattle.rw_program.specs.declared.linked.LinkedFunc.{LinkedFunc}
-use Rattle.rw_program.specs.LonePrograms.{IsLoneProgram, lone_func, lone_program}
+use Rattle.rw_program.specs.LonePrograms.{lone_func, lone_program}
 use Rattle.rw_program.specs.Programs.{Program}
 use Rattle.lowering_table.specs.declared.Pages.{Pages}
 use Rattle.lowering_table.specs.Allocators.{unreachable_code}
-use Rattle.lowering_table.specs.Frames.{height_of, room_of}
+use Rattle.lowering_table.specs.Frames.{room_of}
 use Rattle.lowering_table.specs.Rows.{row, rows}
 use Rattle.lowering_table.specs.Modules.{ArePages, code_of, free_list_bytes, low_function, low_module, main_code, region_start}
 use Rattle.lower.specs.Heights.{IsWithin, AreWithin}
@@ -149,7 +146,7 @@ low_first-bytes : (i k n : ℕ) → All (λ b. b < 256) (bytes_low_first i k n)
 low_first-bytes i zero n = All-nil _
 low_first-bytes i (suc k) n = All-cons (λ b. b < 256) (byte_at i n) (bytes_low_first (suc i) k n) (byte_at-below i n) (low_first-bytes (suc i) k n)
 
-low_first-length : (i k n : ℕ) → length (bytes_low_first i k n) ≡ k
+pub low_first-length : (i k n : ℕ) → length (bytes_low_first i k n) ≡ k
 low_first-length i zero n = refl
 low_first-length i (suc k) n = omega (arith, low_first-length (suc i) k n)
 

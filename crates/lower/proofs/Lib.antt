@@ -3,3 +3,4 @@ pub mod Derived
 pub mod Lowered
 pub mod Nested
 pub mod Fitting
+pub mod ShortContents
