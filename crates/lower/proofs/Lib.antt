@@ -2,3 +2,5 @@ pub mod Lists
 pub mod Derived
 pub mod Lowered
 pub mod Nested
+pub mod Fitting
+pub mod ShortContents

@@ -3,9 +3,11 @@
 
 mod error;
 mod functions;
+mod laws;
 mod low;
 mod parts;
 
 pub use error::LowerError;
+pub use laws::{low_has_short_contents, low_is_in_profile};
 pub use low::lower;
 pub use lowering_table::Pages;

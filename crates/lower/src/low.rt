@@ -1,6 +1,8 @@
 // The lowered module of a linked program.
 ghost use Rattle.std.specs.Prelude.{◌≡◌, [], ◌∷◌, ◌++◌, IfOk};
 ghost use Rattle.wasm_grammar.specs.Nesting.{ModuleNestsAtMost, nesting_limit};
+ghost use Rattle.wasm_grammar.specs.Profile.{IsInProfile};
+ghost use Rattle.wasm_spelling.specs.SpellingLaws.{HasShortContents};
 ghost use Rattle.rw_program.specs.LonePrograms.{IsLoneProgram, lone_func, lone_program};
 ghost use Rattle.lowering_table.specs.Allocators.{unreachable_code};
 ghost use Rattle.lowering_table.specs.Modules.{ArePages, low_function, low_module, main_code};
@@ -18,6 +20,8 @@ pub fn lower(alloc: Global, p: &Linked, pages: &Pages) -> Result<WModule, LowerE
     requires { ArePages pages.now }
     ensures low { IfOk result (λ lowered. lowered ≡ low_module p.now pages.now) }
     ensures nests { IfOk result (ModuleNestsAtMost nesting_limit) }
+    ensures profile { IfOk result IsInProfile }
+    ensures short { IfOk result HasShortContents }
 {
     let [func] = p.funcs().as_slice() else {
         unreachable!()

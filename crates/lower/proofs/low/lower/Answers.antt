@@ -1,5 +1,9 @@
 use Rattle.std.proofs.Common.{refl, sym, subst, ◌∙◌}
 use Rattle.wasm_grammar.specs.Nesting.{ModuleNestsAtMost, nesting_limit}
+use Rattle.wasm_grammar.specs.Profile.{IsInProfile}
+use Rattle.wasm_spelling.specs.SpellingLaws.{HasShortContents}
+use Rattle.lower.proofs.Fitting.{low_is_in_profile}
+use Rattle.lower.proofs.ShortContents.{low_has_short_contents}
 use Rattle.lower.proofs.Nested.{nests}
 use Rattle.lower.specs.Lone.{lone_module}
 use Rattle.lower.proofs.Lowered.{lone_of, low_module_of, same_module}
@@ -21,3 +25,11 @@ returns-clause-nests c =
     subst (ModuleNestsAtMost nesting_limit)
     (sym (same_module _ (lone_module f c.args.pages.now) c.in_ok-types.ensures c.in_ok-imports.ensures c.in_ok-from_slice.ensures.ok c.in_ok-from_slice-2.ensures.ok c.in_ok-memories.ensures c.in_ok-globals.ensures c.in_ok-exports.ensures refl c.in_ok-elements.ensures c.in_ok-codes.ensures c.in_ok-segments.ensures))
     (nests f c.args.pages.now lone)
+
+pub returns-clause-profile : goal.returns-clause-profile
+returns-clause-profile c =
+    subst IsInProfile (sym (returns-clause-low c)) (low_is_in_profile c.args.p.now c.args.pages.now c.funcs.ensures.form c.requires)
+
+pub returns-clause-short : goal.returns-clause-short
+returns-clause-short c =
+    subst HasShortContents (sym (returns-clause-low c)) (low_has_short_contents c.args.p.now c.args.pages.now c.funcs.ensures.form c.requires)
