@@ -12,7 +12,7 @@ use rw_types::{List, Module};
 use std::alloc::Global;
 
 /// Checks a module. It is given back with the notes of its bodies where it is well typed, and else its
-/// first violation is told and the module is lost. Either answer yields to want of memory. What is not
+/// first violation is told and the module is lost. Want of memory can take the place of either. What is not
 /// checked yet is answered by `NotYetBuilt`, which takes no memory.
 pub fn check(alloc: Global, m: Module) -> Result<Checked, CheckError>
     ensures typed { IfOk result (λ c. (c.source ≡ m) × IsTyped m c.notes) }
