@@ -1,7 +1,7 @@
 -- What each answer of a call says and leaves, from how it kept to its job.
 use Rattle.std.proofs.Common.{◌≡◌, ◌≢◌, ◌≤◌, ◌<◌, ◌⊎◌, inl, inr, ℕ, ◌+◌, ◌-◌, List, [], ◌∷◌, ◌++◌, length, take, drop, refl, ap, sym, ◌∙◌, subst, arith, append_assoc, lit≤, Ok, Err, None, Some}
 use Rattle.std.proofs.Math.Seq.{take-append_seam}
-use Rattle.std.proofs.lemmas.List.{append-nil, take-drop}
+use Rattle.std.proofs.lemmas.List.{append-nil, take-append-drop}
 use Rattle.std.specs.declared.option.Option.{Option}
 use Rattle.std.specs.declared.result.Result.{Result}
 use Rattle.std.specs.Io.KnownBytes.{append_known}
@@ -14,7 +14,7 @@ use Rattle.rwc.specs.Endings.{Ends, whole, unwritten, no_memory, no_memory_withi
 use Rattle.rwc.specs.Reports.{Job, LoadLeads, BytesLead, ContentLeads, build_job, BuildReports, CommandReports}
 use Rattle.rwc.specs.Stops.{IsRefusal}
 use Rattle.rwc.specs.Words.{Command, build, command_of}
-use Rattle.rwc.proofs.Building.{content_status, binary_status, load_status, status_of_err, same_bytes}
+use Rattle.rwc.proofs.Building.{content_status, no_refusal, load_status, status_of_err, same_bytes}
 
 text_of-append : (xs ys : List Act) → text_of (xs ++ ys) ≡ text_of xs ++ text_of ys
 text_of-append [] ys = refl
@@ -48,7 +48,7 @@ part_front (append piece) part left is = record { rest = []; is = let e : text_o
 part_front (put piece) part left is =
     let n = length piece - left in
     let e : text_of part ≡ take n piece ++ [] = ap text_of is.2 in
-    record { rest = drop n piece; is = append-nil piece ∙ sym (take-drop n piece) ∙ ap (λ (t : List ℕ). t ++ drop n piece) (sym (append-nil (take n piece)) ∙ sym e) }
+    record { rest = drop n piece; is = append-nil piece ∙ sym (take-append-drop n piece) ∙ ap (λ (t : List ℕ). t ++ drop n piece) (sym (append-nil (take n piece)) ∙ sym e) }
 
 off_front : (acts done : List Act) (left : ℕ) → BreaksOff acts done left → IsFront done (text_of acts)
 off_front acts done left off =
@@ -123,8 +123,7 @@ never_four (Some (build name file)) files job (Err r, leads, is) four = refusal_
   where
     refusal_not_four : (status : ℕ) → IsRefusal status → status ≡ 4 → ⊥
     refusal_not_four status (inl one) e = omega arith
-    refusal_not_four status (inr (inl three)) e = omega arith
-    refusal_not_four status (inr (inr eleven)) e = omega arith
+    refusal_not_four status (inr three) e = omega arith
 
 ends_complete : (job : Job) (done : List Act) (status result : ℕ) (line : List ℕ) → Ends job done status line → (result ≡ status) ⊎ (result ≡ 8) → (result ≡ 5 → ⊥) → (result ≡ job.status) ⊎ (result ≡ 8)
 ends_complete job done status result line ends (inr eight) no_write = inr eight
@@ -151,22 +150,22 @@ record HasJob (Jobs : Job → Type 0) (status : ℕ) : Type 0 where
 
 job_of : (Jobs : Job → Type 0) (before after : Seen) (status result : ℕ) (line : List ℕ) → Keeps Jobs before after status line → (result ≡ status) ⊎ (result ≡ 8) →
     (result ≡ 4 → ⊥) → (result ≡ 5 → ⊥) → (result ≡ 8 → ⊥) → HasJob Jobs result
-job_of Jobs before after status result line (follows job is how) told no_read no_write no_memory =
-    record { job = job; right = is; is = elim (ends_complete job how.done status result line how.ends told no_write) [ inl e ↦ e | inr eight ↦ absurd (no_memory eight) ] }
-job_of Jobs before after status result line (unread file same four says) told no_read no_write no_memory = absurd (elim told [ inl e ↦ no_read (e ∙ four) | inr eight ↦ no_memory eight ])
-job_of Jobs before after status result line (unbegun same eight says) told no_read no_write no_memory = absurd (elim told [ inl e ↦ no_memory (e ∙ eight) | inr e ↦ no_memory e ])
+job_of Jobs before after status result line (follows job is how) told not_four not_five not_eight =
+    record { job = job; right = is; is = elim (ends_complete job how.done status result line how.ends told not_five) [ inl e ↦ e | inr eight ↦ absurd (not_eight eight) ] }
+job_of Jobs before after status result line (unread file same four says) told not_four not_five not_eight = absurd (elim told [ inl e ↦ not_four (e ∙ four) | inr eight ↦ not_eight eight ])
+job_of Jobs before after status result line (unbegun same eight says) told not_four not_five not_eight = absurd (elim told [ inl e ↦ not_eight (e ∙ eight) | inr e ↦ not_eight e ])
 
 -- a status other than 4, 5 and 8 is that of a job which words and files report
 pub reported : (words : List (List ℕ)) (files : List NamedFile) (before after : Seen) (status result : ℕ) (line : List ℕ) → Keeps (λ job. CommandReports (command_of words) files job) before after status line →
     (result ≡ status) ⊎ (result ≡ 8) → result ≢ 4 → result ≢ 5 → result ≢ 8 → HasStatus words files result
-reported words files before after status result line keeps told no_read no_write no_memory =
-    let h = job_of (λ job. CommandReports (command_of words) files job) before after status result line keeps told no_read no_write no_memory in
+reported words files before after status result line keeps told not_four not_five not_eight =
+    let h = job_of (λ job. CommandReports (command_of words) files job) before after status result line keeps told not_four not_five not_eight in
     record { job = h.job; reported = h.right; is = h.is }
 
 text_refused : (file bytes : List ℕ) (r : Refused) → TextLeads file bytes (Err r) → r.status ≡ 1 → IsRefused (Some bytes)
 text_refused file bytes r (not_read none b) one = record { bytes = bytes; is = refl; why = inl none }
 text_refused file bytes r (spelled m spells (refused v first found expected b)) one = record { bytes = bytes; is = refl; why = inr (m, spells, v, first) }
-text_refused file bytes r (spelled m spells (typed notes t leads)) one = absurd (omega (arith, binary_status _ r leads.leads))
+text_refused file bytes r (spelled m spells (typed notes t leads)) one = absurd (no_refusal _ r leads.leads)
 
 content_refused : (file : List ℕ) (content : Option (List ℕ)) (r : Refused) → ContentLeads file content (Err r) → r.status ≡ 1 → IsRefused content
 content_refused file None r (Ok bytes, load, leads) one = absurd cc
@@ -175,18 +174,14 @@ content_refused file (Some content) r (Ok bytes, inr short, leads) one =
     subst (λ (b : List ℕ). IsRefused (Some b)) (same_bytes bytes content short.1) (text_refused file bytes r leads one)
 content_refused file content r (Err q, load, leads) one = absurd (omega (arith, one, status_of_err r q leads, load_status file content q load))
 
-text_one_or_eleven : (file bytes : List ℕ) (r : Refused) → TextLeads file bytes (Err r) → (r.status ≡ 1) ⊎ (r.status ≡ 11)
-text_one_or_eleven file bytes r (not_read none b) = inl (status_of_err _ _ b)
-text_one_or_eleven file bytes r (spelled m spells (refused v first found expected b)) = inl (status_of_err _ _ b)
-text_one_or_eleven file bytes r (spelled m spells (typed notes t leads)) = inr (binary_status _ r leads.leads)
-
-not_three : (status : ℕ) → (status ≡ 1) ⊎ (status ≡ 11) → status ≡ 3 → ⊥
-not_three status (inl one) e = omega arith
-not_three status (inr eleven) e = omega arith
+text_one : (file bytes : List ℕ) (r : Refused) → TextLeads file bytes (Err r) → r.status ≡ 1
+text_one file bytes r (not_read none b) = status_of_err _ _ b
+text_one file bytes r (spelled m spells (refused v first found expected b)) = status_of_err _ _ b
+text_one file bytes r (spelled m spells (typed notes t leads)) = absurd (no_refusal _ r leads.leads)
 
 content_unloadable : (file : List ℕ) (content : Option (List ℕ)) (r : Refused) → ContentLeads file content (Err r) → r.status ≡ 3 → IsUnloadable content
 content_unloadable file None r leads three = tt
-content_unloadable file (Some content) r (Ok bytes, load, leads) three = absurd (not_three r.status (text_one_or_eleven file bytes r leads) three)
+content_unloadable file (Some content) r (Ok bytes, load, leads) three = absurd (omega (arith, three, text_one file bytes r leads))
 content_unloadable file (Some content) r (Err q, inl long, leads) three = long.0
 content_unloadable file (Some content) r (Err q, inr short, leads) three = let e = short.1 in absurd cc
 

@@ -6,6 +6,7 @@ use Rattle.std.specs.Option.{option_map}
 use Rattle.std.specs.Io.KnownBytes.{append_known}
 use Rattle.wasm_ast.specs.declared.modules.WModule.{WModule}
 use Rattle.wasm_grammar.specs.CanonicalModules.{module_bytes}
+use Rattle.wasm_grammar.specs.GrammarModules.{SpellsModule}
 use Rattle.rw_types.specs.declared.modules.Module.{Module}
 use Rattle.rw_text.specs.Spells.{Spells}
 use Rattle.rich_meaning.specs.declared.notes.Note.{Note}
@@ -18,7 +19,7 @@ use Rattle.rw_io.specs.Files.{NamedFile, content_of}
 use Rattle.rw_io.specs.States.{ShelfState, SinkState, Holding}
 use Rattle.rwc.specs.Acts.{Act, Seen, after_act, after_acts, seen_of}
 use Rattle.rwc.specs.Built.{Built}
-use Rattle.rwc.specs.Compiled.{Refused, default_pages, BinaryLeads, fits, too_long, CheckedLeads, ModuleLeads, refused, typed, TextLeads, not_read, spelled}
+use Rattle.rwc.specs.Compiled.{Refused, default_pages, BinaryLeads, CheckedLeads, ModuleLeads, refused, typed, TextLeads, not_read, spelled}
 use Rattle.rwc.specs.Endings.{Ends, whole, unwritten, no_memory, no_memory_within, Follows, Keeps, follows, unread, unbegun}
 use Rattle.rwc.specs.Lines.{wrote_line}
 use Rattle.rwc.specs.Stops.{IsRefusal}
@@ -28,13 +29,12 @@ pub status_of_err : (a b : Refused) → (let r : Result (List ℕ) Refused = Err
 status_of_err a b e = let same : a ≡ b = cc in ap (λ (r : Refused). r.status) same
 
 -- a refusal has a status of its own
-pub binary_status : (m : WModule) (r : Refused) → BinaryLeads m (Err r) → r.status ≡ 11
-binary_status m r (fits e b) = absurd cc
-binary_status m r (too_long id first b) = status_of_err _ _ b
+pub no_refusal : (m : WModule) (r : Refused) → BinaryLeads m (Err r) → ⊥
+no_refusal m r leads = let e = leads.is in cc
 
 module_status : (file : List ℕ) (m : Module) (r : Refused) → ModuleLeads file m (Err r) → IsRefusal r.status
 module_status file m r (refused v first found expected b) = inl (status_of_err _ _ b)
-module_status file m r (typed notes t leads) = inr (inr (binary_status (low_module leads.program default_pages) r leads.leads))
+module_status file m r (typed notes t leads) = absurd (no_refusal (low_module leads.program default_pages) r leads.leads)
 
 text_status : (file bytes : List ℕ) (r : Refused) → TextLeads file bytes (Err r) → IsRefusal r.status
 text_status file bytes r (not_read none b) = inl (status_of_err _ _ b)
@@ -47,12 +47,11 @@ load_status file (Some bytes) r (inr short) = let e = short.1 in absurd cc
 
 pub content_status : (file : List ℕ) (content : Option (List ℕ)) (r : Refused) → ContentLeads file content (Err r) → IsRefusal r.status
 content_status file content r (Ok bytes, load, leads) = text_status file bytes r leads
-content_status file content r (Err q, load, leads) = inr (inl (status_of_err _ _ leads ∙ load_status file content q load))
+content_status file content r (Err q, load, leads) = inr (status_of_err _ _ leads ∙ load_status file content q load)
 
 not_zero : (status : ℕ) → IsRefusal status → status ≢ 0
 not_zero status (inl one) zero = absurd (omega arith)
-not_zero status (inr (inl three)) zero = absurd (omega arith)
-not_zero status (inr (inr eleven)) zero = absurd (omega arith)
+not_zero status (inr three) zero = absurd (omega arith)
 
 -- what an accepted text leads to
 record Accepted (bytes binary : List ℕ) : Type 0 where
@@ -62,14 +61,11 @@ record Accepted (bytes binary : List ℕ) : Type 0 where
   derived : IsTyped source notes
   program : Program
   linked : program_of (record { source = source; notes = notes }) ≡ Some program
+  means : SpellsModule (module_bytes (low_module program default_pages)) (low_module program default_pages)
   is : binary ≡ module_bytes (low_module program default_pages)
 
 pub same_bytes : (a b : List ℕ) → (let r : Result (List ℕ) Refused = Ok a in r) ≡ Ok b → a ≡ b
 same_bytes a b e = cc
-
-binary_accepted : (m : WModule) (binary : List ℕ) → BinaryLeads m (Ok binary) → binary ≡ module_bytes m
-binary_accepted m binary (fits e b) = same_bytes _ _ b
-binary_accepted m binary (too_long id first b) = absurd cc
 
 module_accepted : (file bytes binary : List ℕ) (m : Module) → Spells bytes m → ModuleLeads file m (Ok binary) → Accepted bytes binary
 module_accepted file bytes binary m spells (refused v first found expected b) = absurd cc
@@ -80,7 +76,8 @@ module_accepted file bytes binary m spells (typed notes t leads) = record {
   derived = t;
   program = leads.program;
   linked = leads.linked;
-  is = binary_accepted (low_module leads.program default_pages) binary leads.leads;
+  means = leads.leads.spells;
+  is = same_bytes _ _ leads.leads.is;
 }
 
 text_accepted : (file bytes binary : List ℕ) → TextLeads file bytes (Ok binary) → Accepted bytes binary
@@ -126,6 +123,7 @@ finished files name file said created shelf shelf' out out' (Ok binary) done lea
       typed = a.accepted.derived;
       program = a.accepted.program;
       linked = a.accepted.linked;
+      means = a.accepted.means;
       created = created_after name binary [] created (seen_of shelf out) (seen_of shelf' out') s told ∙ ap (λ (b : List ℕ). Some (name, b)) a.accepted.is;
       told = out_after name binary said (seen_of shelf out) (seen_of shelf' out') s heard ∙ ap (λ (b : List ℕ). Some (said ++ wrote_line name (length b))) a.accepted.is;
     }

@@ -3,8 +3,6 @@ use Rattle.std.proofs.Common.{◌≡◌, ◌≢◌, ◌⊎◌, inl, inr, ℕ, �
 use Rattle.std.specs.declared.option.Option.{Option}
 use Rattle.std.specs.declared.result.Result.{Result}
 use Rattle.wasm_ast.specs.declared.modules.WModule.{WModule}
-use Rattle.wasm_grammar.specs.CanonicalModules.{content_of as section_content}
-use Rattle.wasm_encode.specs.Contents.{IsFirstTooLong}
 use Rattle.rw_types.specs.declared.modules.Module.{Module}
 use Rattle.rw_text.specs.Spells.{Spells}
 use Rattle.rw_text.proofs.Whole.{one_module}
@@ -16,8 +14,7 @@ use Rattle.rw_program.specs.Programs.{Program}
 use Rattle.lowering_table.specs.Modules.{low_module}
 use Rattle.rw_io.specs.Files.{NamedFile, content_of}
 use Rattle.rwc.specs.Answers.{OneReport}
-use Rattle.rwc.specs.Compiled.{Refused, default_pages, BinaryLeads, fits, too_long, CheckedLeads, ModuleLeads, refused, typed, TextLeads, not_read, spelled}
-use Rattle.rwc.specs.Lines.{too_many_line}
+use Rattle.rwc.specs.Compiled.{Refused, default_pages, BinaryLeads, CheckedLeads, ModuleLeads, refused, typed, TextLeads, not_read, spelled}
 use Rattle.rwc.specs.Refusals.{refused_line}
 use Rattle.rwc.specs.Reports.{Job, LoadLeads, BytesLead, ContentLeads, build_job, BuildReports, CommandReports}
 use Rattle.rwc.specs.Words.{Command, build, command_of}
@@ -25,21 +22,8 @@ use Rattle.rwc.specs.Words.{Command, build, command_of}
 abbrev Leads : Type 0
 Leads = Result (List ℕ) Refused
 
-no_section : (m : WModule) (i : ℕ) → length (section_content i m) < 2 ^ 32 → 2 ^ 32 ≤ length (section_content i m) → ⊥
-no_section m i small large = omega arith
-
-first_one : (m : WModule) (i j : ℕ) → IsFirstTooLong m i → IsFirstTooLong m j → i ≡ j
-first_one m i j a b = least i j (λ lt. no_section m i (b.1 i lt) a.0) (λ lt. no_section m j (a.1 j lt) b.0)
-  where
-    least : (i j : ℕ) → (i < j → ⊥) → (j < i → ⊥) → i ≡ j
-    least i j n k = omega (arith, n, k)
-
 binary_one : (m : WModule) (a b : Leads) → BinaryLeads m a → BinaryLeads m b → a ≡ b
-binary_one m a b (fits e x) (fits f y) = x ∙ sym y
-binary_one m a b (fits e x) (too_long i first y) = absurd (no_section m i (e i) first.0)
-binary_one m a b (too_long i first x) (fits e y) = absurd (no_section m i (e i) first.0)
-binary_one m a b (too_long i first x) (too_long j second y) =
-    x ∙ ap (λ (n : ℕ). let r : Leads = Err (record { status = 11; line = too_many_line n }) in r) (first_one m i j first second) ∙ sym y
+binary_one m a b x y = x.is ∙ sym y.is
 
 checked_one : (file : TypedModule) (a b : Leads) → CheckedLeads file a → CheckedLeads file b → a ≡ b
 checked_one file a b h k =

@@ -2,6 +2,7 @@
 use Rattle.std.specs.Prelude.{◌≡◌, List, ℕ, ◌++◌, length, Some}
 use Rattle.std.specs.declared.option.Option.{Option}
 use Rattle.wasm_grammar.specs.CanonicalModules.{module_bytes}
+use Rattle.wasm_grammar.specs.GrammarModules.{SpellsModule}
 use Rattle.rw_types.specs.declared.modules.Module.{Module}
 use Rattle.rw_text.specs.Spells.{Spells}
 use Rattle.rich_meaning.specs.declared.notes.Note.{Note}
@@ -15,7 +16,8 @@ use Rattle.rwc.specs.Compiled.{default_pages}
 use Rattle.rwc.specs.Lines.{wrote_line}
 
 -- The told file spells a well-typed module; what was created under the name is exactly the canonical bytes of the
--- lowered module of its program, and standard output, which held `said`, holds the line behind that.
+-- lowered module of its program, all of which by the binary grammar spell that module; and standard output, which held
+-- `said`, holds the line behind that.
 pub record Built (files : List NamedFile) (name file said : List ℕ) (shelf' : ShelfState) (out' : SinkState) : Type 0 where
   pub bytes : List ℕ
   pub content : content_of files file ≡ Some bytes
@@ -25,5 +27,6 @@ pub record Built (files : List NamedFile) (name file said : List ℕ) (shelf' : 
   pub typed : IsTyped source notes
   pub program : Program
   pub linked : program_of (record { source = source; notes = notes }) ≡ Some program
+  pub means : SpellsModule (module_bytes (low_module program default_pages)) (low_module program default_pages)
   pub created : shelf'.holding.created ≡ Some (name, module_bytes (low_module program default_pages))
   pub told : out'.bytes ≡ Some (said ++ wrote_line name (length (module_bytes (low_module program default_pages))))

@@ -4,7 +4,7 @@ use Rattle.std.specs.declared.result.Result.{Result}
 use Rattle.std.specs.declared.result.Result.TheVariants.{Ok, Err}
 use Rattle.wasm_ast.specs.declared.modules.WModule.{WModule}
 use Rattle.wasm_grammar.specs.CanonicalModules.{module_bytes}
-use Rattle.wasm_encode.specs.Contents.{EachContentFits, IsFirstTooLong}
+use Rattle.wasm_grammar.specs.GrammarModules.{SpellsModule}
 use Rattle.rw_types.specs.declared.modules.Module.{Module}
 use Rattle.rw_text.specs.Spells.{Spells, SpellsNone}
 use Rattle.rich_meaning.specs.declared.notes.Note.{Note}
@@ -15,7 +15,7 @@ use Rattle.rw_program.specs.Programs.{Program}
 use Rattle.rw_program.specs.Linking.{program_of}
 use Rattle.lowering_table.specs.declared.Pages.{Pages}
 use Rattle.lowering_table.specs.Modules.{low_module}
-use Rattle.rwc.specs.Lines.{text_line, too_many_line}
+use Rattle.rwc.specs.Lines.{text_line}
 use Rattle.rwc.specs.Refusals.{refused_line}
 
 -- a refusal: its status, and the line that says why
@@ -27,10 +27,10 @@ pub record Refused : Type 0 where
 abbrev pub default_pages : Pages
 default_pages = record { lin = 16; unr = 16 }
 
--- the canonical bytes of a WebAssembly module, or its first section that is too long to have any
-pub data BinaryLeads (m : WModule) (binary : Result (List ℕ) Refused) : Type 0 where
-  fits : EachContentFits m → binary ≡ Ok (module_bytes m) → BinaryLeads m binary
-  too_long : (id : ℕ) → IsFirstTooLong m id → binary ≡ Err (record { status = 11; line = too_many_line id }) → BinaryLeads m binary
+-- a WebAssembly module leads to its canonical bytes, which by the grammar spell it, all of them
+pub record BinaryLeads (m : WModule) (binary : Result (List ℕ) Refused) : Type 0 where
+  pub spells : SpellsModule (module_bytes m) m
+  pub is : binary ≡ Ok (module_bytes m)
 
 -- what a checked module leads to, which is linked alone
 pub record CheckedLeads (file : TypedModule) (binary : Result (List ℕ) Refused) : Type 0 where

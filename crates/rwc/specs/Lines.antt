@@ -28,7 +28,3 @@ text_line file line column fault =
 -- a name and the number of bytes created under it
 abbrev pub wrote_line : List ℕ → ℕ → List ℕ
 wrote_line name count = codes "wrote " ++ (name ++ (codes " " ++ (decimal count ++ codes " bytes\n")))
-
--- the id of a section of the binary whose content is too long
-abbrev pub too_many_line : ℕ → List ℕ
-too_many_line id = codes "too many section " ++ (decimal id ++ codes "\n")

@@ -1,6 +1,8 @@
 // From the text of a file to the bytes of a binary.
 ghost use Rattle.std.specs.Prelude.{◌≡◌, true, IfOk, Some};
 ghost use Rattle.wasm_grammar.specs.Nesting.{ModuleNestsAtMost, nesting_limit};
+ghost use Rattle.wasm_grammar.specs.Profile.{IsInProfile};
+ghost use Rattle.wasm_spelling.specs.SpellingLaws.{HasShortContents};
 ghost use Rattle.rw_types.specs.LoneMain.{IsLoneMain};
 ghost use Rattle.lowering_table.specs.Modules.{low_module};
 ghost use Rattle.rw_program.specs.Linking.{program_of};
@@ -110,13 +112,15 @@ fn binary_of_program(alloc: Global, program: &Linked) -> Result<Vec<u8>, Stop>
 
 // The canonical bytes of a WebAssembly module.
 fn binary_of_lowered(alloc: Global, lowered: &WModule) -> Result<Vec<u8>, Stop>
-    requires { ModuleNestsAtMost nesting_limit lowered.now }
+    requires nests { ModuleNestsAtMost nesting_limit lowered.now }
+    requires profile { IsInProfile lowered.now }
+    requires short { HasShortContents lowered.now }
     ensures leads { IsStep (BinaryLeads lowered.now) result }
     ensures causes { IfStopped result (λ status _. IsRefusal status) (λ _. ⊥) (λ _. ⊥) }
 {
     match encode(alloc, lowered) {
         Ok(bytes) => Ok(bytes),
-        Err(EncodeError::TooLong(id)) => Err(Stop::refused(11, lines::too_many(alloc, id))),
+        Err(EncodeError::TooLong(_)) => unreachable!(),
         Err(EncodeError::Memory) => Err(Stop::Memory),
     }
 }

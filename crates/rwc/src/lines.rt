@@ -1,6 +1,6 @@
 // The lines that the tool prints.
 ghost use Rattle.std.specs.Prelude.{◌≡◌, string_bytes, IfOk};
-ghost use Rattle.rwc.specs.Lines.{missing_line, too_long_line, text_line, wrote_line, read_fault_line, write_fault_line, too_many_line};
+ghost use Rattle.rwc.specs.Lines.{missing_line, too_long_line, text_line, wrote_line, read_fault_line, write_fault_line};
 
 use itoa::Buffer;
 use std::alloc::{AllocError, Global};
@@ -53,12 +53,4 @@ pub fn wrote(alloc: Global, name: &str, count: usize) -> Result<String, AllocErr
     let mut buffer = Buffer::new();
     let digits = buffer.format(count);
     format!(in alloc; "wrote {name} {digits} bytes\n")
-}
-
-pub fn too_many(alloc: Global, id: u8) -> Result<String, AllocError>
-    ensures { IfOk result (λ line. string_bytes line ≡ too_many_line id) }
-{
-    let mut buffer = Buffer::new();
-    let digits = buffer.format(id);
-    format!(in alloc; "too many section {digits}\n")
 }

@@ -1,13 +1,14 @@
 // The top call: all that the program does.
-ghost use Rattle.std.specs.Prelude.{◌≡◌, ◌⊎◌, ℕ, List, Some, None, IsErr, string_bytes, map};
+ghost use Rattle.std.specs.Prelude.{◌≡◌, ◌≢◌, ◌⊎◌, ℕ, List, Some, None, IsErr, string_bytes, map};
 ghost use Rattle.rw_io.specs.Counts.{Rose};
-ghost use Rattle.rw_io.specs.Files.{NamedFile};
+ghost use Rattle.rw_io.specs.Files.{NamedFile, content_of};
 ghost use Rattle.rwc.specs.Acts.{seen_of};
+ghost use Rattle.rwc.specs.Answers.{text_of, PutsText, HasStatus, IsUnloadable, IsRefused};
 ghost use Rattle.rwc.specs.Built.{Built};
 ghost use Rattle.rwc.specs.Endings.{Keeps, WriteRose};
 ghost use Rattle.rwc.specs.Lines.{words_line};
 ghost use Rattle.rwc.specs.Outcomes.{Tells, Outcome};
-ghost use Rattle.rwc.specs.Reports.{Reports};
+ghost use Rattle.rwc.specs.Reports.{Job, Reports};
 ghost use Rattle.rwc.specs.Stops.{IsRefusal, stop_status, stop_line, status_of, line_of, IfStop, IfStopped};
 ghost use Rattle.rwc.specs.Words.{command_of, build};
 
@@ -32,6 +33,16 @@ pub fn rwc<S: Shelf, O: Sink, E: Sink>(
     ensures built { (name file said : List ℕ) (files : List NamedFile) (created : NamedFile) → command_of (map string_bytes words.now) ≡ Some (build name file)
         → (S.state shelf.old).holding.files ≡ Some files → (S.state shelf.old).holding.created ≡ Some created → (O.state out.old).bytes ≡ Some said
         → result.0 ≡ 0 → Built files name file said (S.state shelf.new) (O.state out.new) }
+    ensures text { (files : List NamedFile) (job : Job) → (S.state shelf.old).holding.files ≡ Some files → Reports (map string_bytes words.now) files job
+        → PutsText (text_of job.acts) (O.state out.old).bytes (O.state out.new).bytes result.0 }
+    ensures reported { (files : List NamedFile) → (S.state shelf.old).holding.files ≡ Some files → result.0 ≢ 4 → result.0 ≢ 5 → result.0 ≢ 8
+        → HasStatus (map string_bytes words.now) files result.0 }
+    ensures complete { (files : List NamedFile) (job : Job) → (S.state shelf.old).holding.files ≡ Some files → Reports (map string_bytes words.now) files job
+        → result.0 ≢ 4 → result.0 ≢ 5 → (result.0 ≡ job.status) ⊎ (result.0 ≡ 8) }
+    ensures refused { (name file : List ℕ) (files : List NamedFile) → command_of (map string_bytes words.now) ≡ Some (build name file)
+        → (S.state shelf.old).holding.files ≡ Some files → result.0 ≡ 1 → IsRefused (content_of files file) }
+    ensures unloadable { (name file : List ℕ) (files : List NamedFile) → command_of (map string_bytes words.now) ≡ Some (build name file)
+        → (S.state shelf.old).holding.files ≡ Some files → result.0 ≡ 3 → IsUnloadable (content_of files file) }
     ensures words_refused { result.0 ≡ 2 → command_of (map string_bytes words.now) ≡ None }
     ensures not_plain { command_of (map string_bytes words.now) ≡ None → (result.0 ≡ 2) ⊎ (result.0 ≡ 8) }
     ensures read_fault { result.0 ≡ 4 → Rose (S.state shelf.old).load_faults (S.state shelf.new).load_faults }

@@ -1,10 +1,18 @@
-use Rattle.std.proofs.Common.{refl}
-use Rattle.rwc.specs.Compiled.{BinaryLeads, too_long}
-use Rattle.rwc.proofs.Steps.{refused_step}
+use Rattle.std.proofs.Common.{sym, subst, ap, Ok, refl, arith, ◌≡◌, ◌^◌, ◌≤◌, ◌<◌, length}
+use Rattle.std.specs.Result.{IsErrOf}
+use Rattle.wasm_encode.specs.Contents.{IsFirstTooLong}
+use Rattle.wasm_spelling.proofs.SpelledModules.{canonical_bytes_spell}
 use Rattle.rwc.proofs.compile.binary_of_lowered.Goals as goal
 
-pub returns-in-Err-TooLong-clause-leads : goal.returns-in-Err-TooLong-clause-leads
-returns-in-Err-TooLong-clause-leads c =
-    let long = rw c.in-Err-TooLong.field-0-is at c.in-Err-TooLong.ensures.long in
-    refused_step (BinaryLeads c.args.lowered.now) 11 c.too_many.result c.refused.result _ c.refused.ensures c.too_many.ensures
-    (too_long c.in-Err-TooLong.id (long c.in-Err-TooLong.id refl) refl)
+pub returns-in-Ok-clause-leads : goal.returns-in-Ok-clause-leads
+returns-in-Ok-clause-leads c = record {
+  spells = canonical_bytes_spell c.args.lowered.now c.requires.profile c.requires.short;
+  is = ap (λ b. Ok b) c.in-Ok.ensures.bytes;
+}
+
+-- no section is too long, since each content is short
+pub unreachable-requires : goal.unreachable-requires
+unreachable-requires c =
+  let told = rw c.in-Err-TooLong.field-0-is at c.in-Err-TooLong.ensures.long in
+  let long = told c.in-Err-TooLong.field-0-0 refl in
+  omega (arith, long.0, c.requires.short c.in-Err-TooLong.field-0-0)
