@@ -200,3 +200,28 @@ why_refused name file words files status spells h one =
 pub why_unloadable : (name file : List ℕ) (words : List (List ℕ)) (files : List NamedFile) (status : ℕ) → command_of words ≡ Some (build name file) → HasStatus words files status → status ≡ 3 → IsUnloadable (content_of files file)
 why_unloadable name file words files status spells h three =
     build_unloadable name file files h.job (subst (λ (command : Option Command). CommandReports command files h.job) spells h.reported) (sym h.is ∙ three)
+
+refusal_acts : (name file : List ℕ) (files : List NamedFile) (job : Job) → BuildReports name file files job → job.status ≢ 0 → job.acts ≡ []
+refusal_acts name file files job (Ok binary, leads, is) not_zero = absurd (not_zero (ap (λ (j : Job). j.status) is))
+refusal_acts name file files job (Err r, leads, is) not_zero = ap (λ (j : Job). j.acts) is
+
+no_acts : (command : Option Command) (files : List NamedFile) (job : Job) → CommandReports command files job → job.status ≢ 0 → job.acts ≡ []
+no_acts None files job is not_zero = ap (λ (j : Job). j.acts) is
+no_acts (Some (build name file)) files job is not_zero = refusal_acts name file files job is not_zero
+
+ends_untouched : (job : Job) (done : List Act) (status result : ℕ) (line : List ℕ) → Ends job done status line → (job.status ≢ 0 → job.acts ≡ []) → result ≡ status →
+    result ≢ 0 → result ≢ 5 → result ≢ 8 → done ≡ []
+ends_untouched job done status result line (whole all same says) none e not_zero not_five not_eight = all ∙ none (λ zero. not_zero (e ∙ same ∙ zero))
+ends_untouched job done status result line (unwritten left off five says) none e not_zero not_five not_eight = absurd (not_five (e ∙ five))
+ends_untouched job done status result line (no_memory rest split eight says) none e not_zero not_five not_eight = absurd (not_eight (e ∙ eight))
+ends_untouched job done status result line (no_memory_within left off eight says) none e not_zero not_five not_eight = absurd (not_eight (e ∙ eight))
+
+-- at a status other than 0, 5 and 8 nothing was created and nothing was put
+pub untouched : (words : List (List ℕ)) (files : List NamedFile) (before after : Seen) (status result : ℕ) (line : List ℕ) → Keeps (λ job. CommandReports (command_of words) files job) before after status line →
+    (result ≡ status) ⊎ (result ≡ 8) → result ≢ 0 → result ≢ 5 → result ≢ 8 → after ≡ before
+untouched words files before after status result line keeps (inr eight) not_zero not_five not_eight = absurd (not_eight eight)
+untouched words files before after status result line (follows job is how) (inl e) not_zero not_five not_eight =
+    how.seen ∙ ap (λ (acts : List Act). after_acts acts before)
+        (ends_untouched job how.done status result line how.ends (no_acts (command_of words) files job is) e not_zero not_five not_eight)
+untouched words files before after status result line (unread file same four says) (inl e) not_zero not_five not_eight = same
+untouched words files before after status result line (unbegun same eight says) (inl e) not_zero not_five not_eight = same

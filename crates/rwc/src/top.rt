@@ -43,6 +43,8 @@ pub fn rwc<S: Shelf, O: Sink, E: Sink>(
         → (S.state shelf.old).holding.files ≡ Some files → result.0 ≡ 1 → IsRefused (content_of files file) }
     ensures unloadable { (name file : List ℕ) (files : List NamedFile) → command_of (map string_bytes words.now) ≡ Some (build name file)
         → (S.state shelf.old).holding.files ≡ Some files → result.0 ≡ 3 → IsUnloadable (content_of files file) }
+    ensures untouched { (files : List NamedFile) → (S.state shelf.old).holding.files ≡ Some files → result.0 ≢ 0 → result.0 ≢ 5 → result.0 ≢ 8
+        → seen_of (S.state shelf.new) (O.state out.new) ≡ seen_of (S.state shelf.old) (O.state out.old) }
     ensures words_refused { result.0 ≡ 2 → command_of (map string_bytes words.now) ≡ None }
     ensures not_plain { command_of (map string_bytes words.now) ≡ None → (result.0 ≡ 2) ⊎ (result.0 ≡ 8) }
     ensures read_fault { result.0 ≡ 4 → Rose (S.state shelf.old).load_faults (S.state shelf.new).load_faults }

@@ -5,7 +5,7 @@ use Rattle.rwc.specs.Endings.{Keeps}
 use Rattle.rwc.specs.Reports.{CommandReports}
 use Rattle.rwc.specs.Words.{Command, command_of}
 use Rattle.rwc.proofs.Building.{built, told_zero}
-use Rattle.rwc.proofs.Answering.{keeps_text, complete, reported, why_refused, why_unloadable, never_four}
+use Rattle.rwc.proofs.Answering.{keeps_text, complete, reported, untouched, why_refused, why_unloadable, never_four}
 use Rattle.rwc.proofs.OneReport.{one_report}
 use Rattle.rwc.specs.Stops.{done_status, stop_status, stop_line}
 use Rattle.rwc.proofs.Endings.{tells_nothing}
@@ -82,3 +82,11 @@ pub returns-in-Err-clause-unloadable : goal.returns-in-Err-clause-unloadable
 returns-in-Err-clause-unloadable g c name file files spells told three =
     why_unloadable name file (map string_bytes c.args.words.now) files _ spells
         (reported (map string_bytes c.args.words.now) files _ _ _ _ _ (c.in-Err.ensures.keeps files told) c.tell.ensures.same (λ e. omega (arith, three, e)) (λ e. omega (arith, three, e)) (λ e. omega (arith, three, e))) three
+
+pub returns-in-Ok-clause-untouched : goal.returns-in-Ok-clause-untouched
+returns-in-Ok-clause-untouched g c files told not_zero not_five not_eight =
+    untouched (map string_bytes c.args.words.now) files _ _ _ _ _ (c.in-Ok.ensures.keeps files told) (inl c.status.ensures) not_zero not_five not_eight
+
+pub returns-in-Err-clause-untouched : goal.returns-in-Err-clause-untouched
+returns-in-Err-clause-untouched g c files told not_zero not_five not_eight =
+    untouched (map string_bytes c.args.words.now) files _ _ _ _ _ (c.in-Err.ensures.keeps files told) c.tell.ensures.same not_zero not_five not_eight
