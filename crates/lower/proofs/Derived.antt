@@ -1,6 +1,6 @@
 -- The notes of a derivation of plain instructions: each operand is one word, and no more stand than there are
 -- instructions.
-use Rattle.std.proofs.Common.{◌≡◌, ℕ, ◌+◌, ◌≤◌, Bool, true, false, List, [], ◌∷◌, length, Option, refl, ap, sym, ◌∙◌, subst, arith}
+use Rattle.std.proofs.Common.{◌≡◌, ℕ, ◌+◌, ◌≤◌, Bool, true, false, List, [], ◌∷◌, length, Option, refl, ap, sym, subst, arith}
 use Rattle.rw_types.specs.declared.instrs.Instr.{Instr, I64Const, Num, Print, Drop}
 use Rattle.rw_types.specs.declared.numbers.NumName.TheVariants.{I64Add}
 use Rattle.rw_types.specs.declared.types.Ty.{Ty, Of}
@@ -10,7 +10,7 @@ use Rattle.rw_types.specs.LoneMain.{IsPlain, ArePlain}
 use Rattle.rich_meaning.specs.declared.notes.Note.{Note}
 use Rattle.rich_meaning.specs.declared.rules.Rule.{Rule}
 use Rattle.rich_meaning.specs.Kinds.{size, words_of}
-use Rattle.rich_meaning.specs.Table.{Outcome, Gives, Breaks, need, i64_form, unr_i64, row, note_of}
+use Rattle.rich_meaning.specs.Table.{Outcome, Gives, need, i64_form, unr_i64, row, note_of}
 use Rattle.rich_meaning.specs.Derivations.{Derives, done, next}
 use Rattle.lower.specs.Heights.{IsWithin, AreWithin}
 

@@ -1,12 +1,9 @@
 -- Instructions and notes at a place of their lists.
-use Rattle.std.proofs.Common.{◌≡◌, ℕ, zero, suc, ◌+◌, ◌<◌, ◌≤◌, List, [], ◌∷◌, ◌++◌, length, drop, get_or, max, refl, ap, sym, ◌∙◌, arith, subst, slice_get, Some, None, append_assoc}
-use Rattle.std.specs.declared.option.Option.{Option}
-use Rattle.wasm_ast.specs.declared.instructions.WInstr.{WInstr}
+use Rattle.std.proofs.Common.{ℕ, zero, suc, ◌<◌, ◌≤◌, List, [], ◌∷◌, length, get_or, arith}
 use Rattle.rw_types.specs.declared.instrs.Instr.{Instr}
 use Rattle.rw_types.specs.LoneMain.{IsPlain, ArePlain}
 use Rattle.rich_meaning.specs.declared.notes.Note.{Note}
-use Rattle.lowering_table.specs.Frames.{height_of, room_of}
-use Rattle.lowering_table.specs.Rows.{row, rows}
+use Rattle.lowering_table.specs.Frames.{room_of}
 use Rattle.lower.specs.Heights.{IsWithin, AreWithin}
 
 pub plain_at : (body : List Instr) (k : ℕ) (d : Instr) → k < length body → ArePlain body → IsPlain (get_or body k d)

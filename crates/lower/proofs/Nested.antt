@@ -1,13 +1,11 @@
 -- No block, loop or if is open in the lowered module of a program of one plain function.
-use Rattle.std.proofs.Common.{◌≡◌, ℕ, zero, suc, ◌+◌, ◌≤◌, max, List, [], ◌∷◌, ◌++◌, All, refl, ap, sym, ◌∙◌, subst, arith}
+use Rattle.std.proofs.Common.{◌≡◌, ℕ, ◌+◌, ◌≤◌, max, List, [], ◌∷◌, ◌++◌, refl, ap, sym, ◌∙◌, subst, arith}
 use Rattle.std.proofs.lemmas.List.Elements.{All-from_recursion}
 use Rattle.wasm_ast.specs.declared.instructions.WInstr as w
 use Rattle.wasm_ast.specs.declared.instructions.WInstr.{roll-WInstr, out-roll-WInstr}
 use Rattle.wasm_ast.specs.declared.instructions.WInstr.TheOpen.{WInstr-F}
 use Rattle.wasm_ast.specs.declared.instructions.WInstr.TheVariants.{rolls-LocalGet, rolls-LocalSet, rolls-GlobalGet, rolls-GlobalSet, rolls-Call, rolls-I64Const, rolls-I32Const, rolls-I64Add, rolls-Nop, rolls-Unreachable}
 use Rattle.wasm_ast.specs.Immediates.{immediate_in}
-use Rattle.wasm_ast.specs.declared.modules.Code.{Code}
-use Rattle.wasm_ast.specs.declared.modules.WModule.{WModule}
 use Rattle.wasm_grammar.specs.Nesting.{greatest, immediate_nesting, nesting, nesting_limit, NestsAtMost, ModuleNestsAtMost}
 use Rattle.wasm_grammar.proofs.InstructionLayers.{nesting-layer}
 use Rattle.rw_types.specs.declared.instrs.Instr.{Instr, I64Const, Num, Print, Drop}

@@ -1,7 +1,7 @@
 -- The sections of the lowered module of a program of one function without parameters that gives one word. This
 -- project's own.
-use Rattle.std.specs.Prelude.{ℕ, List, [], ◌∷◌, codes, true, Some, None}
-use Rattle.wasm_ast.specs.declared.types.ValTy.TheVariants.{I32, I64}
+use Rattle.std.specs.Prelude.{List, [], ◌∷◌, codes, true, Some, None}
+use Rattle.wasm_ast.specs.declared.types.ValTy.TheVariants.{I32}
 use Rattle.wasm_ast.specs.declared.types.FuncType.{FuncType}
 use Rattle.wasm_ast.specs.declared.types.Limits.{Limits}
 use Rattle.wasm_ast.specs.declared.instructions.WInstr.{I32Const}

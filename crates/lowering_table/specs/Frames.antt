@@ -1,7 +1,6 @@
 -- The frame of a lowered function: Wasm locals of 64 bits for its parameter words, its slot words, its operand
 -- words, and two scratch words. This project's own.
-use Rattle.std.specs.Prelude.{ℕ, ◌+◌, max, sum, List, [], ◌∷◌}
-use Rattle.rw_types.specs.declared.types.Ty.{Ty}
+use Rattle.std.specs.Prelude.{ℕ, ◌+◌, max, List, [], ◌∷◌}
 use Rattle.rich_meaning.specs.Kinds.{words_of}
 use Rattle.rich_meaning.specs.declared.notes.Note.{Note}
 

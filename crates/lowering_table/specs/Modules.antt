@@ -10,7 +10,6 @@ use Rattle.wasm_ast.specs.declared.modules.ExportKind.TheVariants as export_kind
 use Rattle.wasm_ast.specs.declared.modules.Code.{Code}
 use Rattle.wasm_ast.specs.declared.modules.Export.{Export}
 use Rattle.wasm_ast.specs.declared.modules.WGlobal.{WGlobal}
-use Rattle.wasm_ast.specs.declared.modules.LocalRun.{LocalRun}
 use Rattle.wasm_ast.specs.declared.modules.WModule.{WModule}
 use Rattle.rich_meaning.specs.Kinds.{size, words_of}
 use Rattle.rw_program.specs.declared.linked.LinkedFunc.{LinkedFunc}

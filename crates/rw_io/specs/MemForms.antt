@@ -1,5 +1,5 @@
 -- What the forms in memory hold, and how they are told to fail; this project's own.
-use Rattle.std.specs.Prelude.{◌≡◌, ℕ, ◌+◌, List, [], ◌∷◌, ◌&&◌, ◌==◌, not, min, length, nat_lt, if◌then◌else◌, is_some, Vec, string_bytes}
+use Rattle.std.specs.Prelude.{ℕ, List, [], ◌∷◌, ◌&&◌, ◌==◌, length, nat_lt, if◌then◌else◌, Vec, string_bytes}
 use Rattle.std.specs.declared.alloc.Global.{Global}
 use Rattle.std.specs.declared.option.Option.{Option}
 use Rattle.std.specs.declared.option.Option.TheVariants.{None, Some}
@@ -9,10 +9,9 @@ use Rattle.std.specs.declared.string.String.{String}
 use Rattle.rw_io.specs.declared.error.LoadError.{LoadError}
 use Rattle.rw_io.specs.declared.error.LoadError.TheVariants.{Failed as LoadFailed}
 use Rattle.rw_io.specs.declared.error.PutError.{PutError}
-use Rattle.rw_io.specs.declared.error.PutError.TheVariants.{Failed, Memory}
+use Rattle.rw_io.specs.declared.error.PutError.TheVariants.{Failed}
 use Rattle.rw_io.specs.Counts.{raised}
 use Rattle.rw_io.specs.Files.{NamedFile}
-use Rattle.rw_io.specs.States.{ShelfState, SinkState}
 
 abbrev pub Owned : Type 0
 Owned = String Global × Vec ℕ Global

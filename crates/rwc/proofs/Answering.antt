@@ -1,17 +1,22 @@
 -- What each answer of a call says and leaves, from how it kept to its job.
-use Rattle.std.proofs.Common.{◌≡◌, ◌≢◌, ◌≤◌, ◌<◌, ◌⊎◌, inl, inr, ℕ, ◌+◌, ◌-◌, List, [], ◌∷◌, ◌++◌, length, take, drop, refl, ap, sym, ◌∙◌, subst, arith, append_assoc, lit≤, Ok, Err, None, Some}
+use Rattle.std.proofs.Common.{◌≡◌, ◌≢◌, ◌≤◌, ◌<◌, ◌⊎◌, inl, inr, ℕ, ◌-◌, List, [], ◌∷◌, ◌++◌, length, take, drop, refl, ap, sym, ◌∙◌, subst, arith, append_assoc, Ok, Err, None, Some}
 use Rattle.std.proofs.Math.Seq.{take-append_seam}
 use Rattle.std.proofs.lemmas.List.{append-nil, take-append-drop}
 use Rattle.std.specs.declared.option.Option.{Option}
-use Rattle.std.specs.declared.result.Result.{Result}
 use Rattle.std.specs.Io.KnownBytes.{append_known}
 use Rattle.rw_types.specs.declared.modules.Module.{Module}
+use Rattle.rw_text.specs.Spells.{Spells, SpellsNone}
+use Rattle.rw_text.proofs.Whole.{one_module}
+use Rattle.rich_meaning.specs.declared.notes.Note.{Note}
+use Rattle.rich_meaning.specs.Derivations.{IsTyped}
+use Rattle.rich_meaning.specs.Violations.{Violation, FirstViolation}
+use Rattle.rich_meaning.proofs.LoneModules.{module_never_both}
 use Rattle.rw_io.specs.Files.{NamedFile, content_of}
 use Rattle.rwc.specs.Acts.{Act, create, append, put, Seen, after_act, after_acts, IsPart, BreaksOff}
 use Rattle.rwc.specs.Answers.{text_of, PutsText, HasStatus, IsUnloadable, IsRefused}
-use Rattle.rwc.specs.Compiled.{Refused, BinaryLeads, ModuleLeads, refused, typed, TextLeads, not_read, spelled}
-use Rattle.rwc.specs.Endings.{Ends, whole, unwritten, no_memory, no_memory_within, Follows, Keeps, follows, unread, unbegun}
-use Rattle.rwc.specs.Reports.{Job, LoadLeads, BytesLead, ContentLeads, build_job, BuildReports, CommandReports}
+use Rattle.rwc.specs.Compiled.{Refused, refused, typed, TextLeads, not_read, spelled}
+use Rattle.rwc.specs.Endings.{Ends, whole, unwritten, no_memory, no_memory_within, Keeps, follows, unread, unbegun}
+use Rattle.rwc.specs.Reports.{Job, max_file_length, ContentLeads, BuildReports, CommandReports}
 use Rattle.rwc.specs.Stops.{IsRefusal}
 use Rattle.rwc.specs.Words.{Command, build, command_of}
 use Rattle.rwc.proofs.Building.{content_status, no_refusal, load_status, status_of_err, same_bytes}
@@ -108,8 +113,8 @@ pub keeps_text : (Jobs : Job → Type 0) (one : (a b : Job) → Jobs a → Jobs 
     Keeps Jobs before after status line → (result ≡ status) ⊎ (result ≡ 8) → PutsText (text_of job.acts) before.out after.out result
 keeps_text Jobs one job right not_four before after status result line (follows other is how) told =
     subst (λ (j : Job). PutsText (text_of j.acts) before.out after.out result) (one other job is right)
-        (puts other how.done status result line before.out after.out how.ends (ap (λ (s : Seen). s.out) how.seen ∙ out_after how.done before) told
-            (λ four. not_four (ap (λ (j : Job). j.status) (one job other right is) ∙ four)))
+    (puts other how.done status result line before.out after.out how.ends (ap (λ (s : Seen). s.out) how.seen ∙ out_after how.done before) told
+    (λ four. not_four (ap (λ (j : Job). j.status) (one job other right is) ∙ four)))
 keeps_text Jobs one job right not_four before after status result line (unread file same four says) told =
     nothing_put _ _ _ result (ap (λ (s : Seen). s.out) same) (elim told [ inl e ↦ inl (e ∙ four) | inr eight ↦ inr eight ])
 keeps_text Jobs one job right not_four before after status result line (unbegun same eight says) told =
@@ -222,6 +227,47 @@ pub untouched : (words : List (List ℕ)) (files : List NamedFile) (before after
 untouched words files before after status result line keeps (inr eight) not_zero not_five not_eight = absurd (not_eight eight)
 untouched words files before after status result line (follows job is how) (inl e) not_zero not_five not_eight =
     how.seen ∙ ap (λ (acts : List Act). after_acts acts before)
-        (ends_untouched job how.done status result line how.ends (no_acts (command_of words) files job is) e not_zero not_five not_eight)
+    (ends_untouched job how.done status result line how.ends (no_acts (command_of words) files job is) e not_zero not_five not_eight)
 untouched words files before after status result line (unread file same four says) (inl e) not_zero not_five not_eight = same
 untouched words files before after status result line (unbegun same eight says) (inl e) not_zero not_five not_eight = same
+
+job_or_memory : (Jobs : Job → Type 0) (before after : Seen) (status result : ℕ) (line : List ℕ) → Keeps Jobs before after status line → (result ≡ status) ⊎ (result ≡ 8) →
+    result ≢ 4 → result ≢ 5 → HasJob Jobs result ⊎ (result ≡ 8)
+job_or_memory Jobs before after status result line (follows job is how) told not_four not_five =
+    elim (ends_complete job how.done status result line how.ends told not_five) [ inl e ↦ inl (record { job = job; right = is; is = e }) | inr eight ↦ inr eight ]
+job_or_memory Jobs before after status result line (unread file same four says) (inl e) not_four not_five = absurd (not_four (e ∙ four))
+job_or_memory Jobs before after status result line (unread file same four says) (inr eight) not_four not_five = inr eight
+job_or_memory Jobs before after status result line (unbegun same eight says) (inl e) not_four not_five = inr (e ∙ eight)
+job_or_memory Jobs before after status result line (unbegun same eight says) (inr e) not_four not_five = inr e
+
+same_content : (a b : List ℕ) → (let o : Option (List ℕ) = Some a in o) ≡ Some b → a ≡ b
+same_content a b e = cc
+
+-- a text that spells a typed module is not refused
+not_refused : (bytes : List ℕ) (m : Module) (notes : List (List Note)) → Spells bytes m → IsTyped m notes → IsRefused (Some bytes) → ⊥
+not_refused bytes m notes spells derived r = spelled_not_refused (subst (λ (b : List ℕ). SpellsNone b ⊎ ((k : Module) × Spells b k × (v : Violation) × FirstViolation k v)) (sym (same_content bytes r.bytes r.is)) r.why)
+  where
+    spelled_not_refused : SpellsNone bytes ⊎ ((k : Module) × Spells bytes k × (v : Violation) × FirstViolation k v) → ⊥
+    spelled_not_refused (inl none) = none m spells
+    spelled_not_refused (inr (k, others, v, first)) = module_never_both m notes v derived (subst (λ (n : Module). FirstViolation n v) (one_module bytes k m others spells) first)
+
+build_zero : (name file bytes : List ℕ) (files : List NamedFile) (m : Module) (notes : List (List Note)) (job : Job) → BuildReports name file files job → content_of files file ≡ Some bytes → length bytes ≤ max_file_length →
+    Spells bytes m → IsTyped m notes → job.status ≡ 0
+build_zero name file bytes files m notes job (Ok binary, leads, is) there short spells derived = ap (λ (j : Job). j.status) is
+build_zero name file bytes files m notes job (Err r, leads, is) there short spells derived = absurd (elim (content_status file (content_of files file) r leads) [
+  | inl one ↦ not_refused bytes m notes spells derived (subst IsRefused there (content_refused file (content_of files file) r leads one))
+  | inr three ↦ too_long (subst IsUnloadable there (content_unloadable file (content_of files file) r leads three))
+])
+  where
+    too_long : max_file_length < length bytes → ⊥
+    too_long long = omega (arith, long, short)
+
+-- a told file whose text spells a typed module is built, unless something failed or memory was wanting
+pub accepted : (name file bytes : List ℕ) (words : List (List ℕ)) (files : List NamedFile) (m : Module) (notes : List (List Note)) (before after : Seen) (status result : ℕ) (line : List ℕ) → command_of words ≡ Some (build name file) →
+    Keeps (λ job. CommandReports (command_of words) files job) before after status line → (result ≡ status) ⊎ (result ≡ 8) → content_of files file ≡ Some bytes → length bytes ≤ max_file_length → Spells bytes m → IsTyped m notes →
+    result ≢ 4 → result ≢ 5 → (result ≡ 0) ⊎ (result ≡ 8)
+accepted name file bytes words files m notes before after status result line plain keeps told there short spells derived not_four not_five =
+    elim (job_or_memory (λ job. CommandReports (command_of words) files job) before after status result line keeps told not_four not_five) [
+      | inl h ↦ inl (h.is ∙ build_zero name file bytes files m notes h.job (subst (λ (command : Option Command). CommandReports command files h.job) plain h.right) there short spells derived)
+      | inr eight ↦ inr eight
+    ]

@@ -1,5 +1,5 @@
 -- A build that ended with status 0 has created the canonical bytes of the lowered module, whole, and said so.
-use Rattle.std.proofs.Common.{◌≡◌, ◌≢◌, ◌⊎◌, inl, inr, ℕ, List, [], ◌∷◌, ◌++◌, length, refl, ap, sym, ◌∙◌, subst, arith, Ok, Err, None, Some}
+use Rattle.std.proofs.Common.{◌≡◌, ◌≢◌, ◌⊎◌, inl, inr, ℕ, List, [], ◌++◌, length, ap, sym, ◌∙◌, arith, Ok, Err, None, Some}
 use Rattle.std.specs.declared.option.Option.{Option}
 use Rattle.std.specs.declared.result.Result.{Result}
 use Rattle.std.specs.Option.{option_map}
@@ -12,18 +12,17 @@ use Rattle.rw_text.specs.Spells.{Spells}
 use Rattle.rich_meaning.specs.declared.notes.Note.{Note}
 use Rattle.rich_meaning.specs.Derivations.{IsTyped}
 use Rattle.rw_program.specs.Linking.{program_of}
-use Rattle.rw_program.specs.Modules.{TypedModule}
 use Rattle.rw_program.specs.Programs.{Program}
 use Rattle.lowering_table.specs.Modules.{low_module}
 use Rattle.rw_io.specs.Files.{NamedFile, content_of}
-use Rattle.rw_io.specs.States.{ShelfState, SinkState, Holding}
-use Rattle.rwc.specs.Acts.{Act, Seen, after_act, after_acts, seen_of}
+use Rattle.rw_io.specs.States.{ShelfState, SinkState}
+use Rattle.rwc.specs.Acts.{Act, Seen, after_acts, seen_of}
 use Rattle.rwc.specs.Built.{Built}
-use Rattle.rwc.specs.Compiled.{Refused, default_pages, BinaryLeads, CheckedLeads, ModuleLeads, refused, typed, TextLeads, not_read, spelled}
+use Rattle.rwc.specs.Compiled.{Refused, default_pages, BinaryLeads, ModuleLeads, refused, typed, TextLeads, not_read, spelled}
 use Rattle.rwc.specs.Endings.{Ends, whole, unwritten, no_memory, no_memory_within, Follows, Keeps, follows, unread, unbegun}
 use Rattle.rwc.specs.Lines.{wrote_line}
 use Rattle.rwc.specs.Stops.{IsRefusal}
-use Rattle.rwc.specs.Reports.{Job, LoadLeads, BytesLead, ContentLeads, build_job, BuildReports}
+use Rattle.rwc.specs.Reports.{Job, LoadLeads, ContentLeads, build_job, BuildReports}
 
 pub status_of_err : (a b : Refused) → (let r : Result (List ℕ) Refused = Err a in r) ≡ Err b → a.status ≡ b.status
 status_of_err a b e = let same : a ≡ b = cc in ap (λ (r : Refused). r.status) same

@@ -1,18 +1,16 @@
 -- How each exit of a job keeps to it: what was done is a front of its acts, and the line says how it ended.
-use Rattle.std.proofs.Common.{◌≡◌, ◌⊎◌, inl, inr, ℕ, Bool, true, List, [], ◌∷◌, ◌++◌, length, take, refl, ap, sym, ◌∙◌, subst, string_bytes, Ok, Err, None, Some, lit≤}
-use Rattle.std.proofs.lemmas.List.{take_all, append-nil}
+use Rattle.std.proofs.Common.{◌≡◌, inl, ℕ, List, [], ◌∷◌, ◌++◌, refl, ap, sym, ◌∙◌, string_bytes, Err, None, Some, lit≤}
+use Rattle.std.proofs.lemmas.List.{append-nil}
 use Rattle.std.specs.declared.option.Option.{Option}
-use Rattle.std.specs.declared.result.Result.{Result}
 use Rattle.std.specs.Io.KnownBytes.{append_known}
 use Rattle.rw_io.specs.Files.{NamedFile, content_of}
-use Rattle.rw_io.specs.States.{ShelfState, SinkState}
+use Rattle.rw_io.specs.States.{SinkState}
 use Rattle.rwc.specs.declared.ending.Stop.{Stop}
 use Rattle.rwc.specs.declared.ending.Stop.TheVariants.{Refused as IsRefused, Unread, Unwritten, Memory}
 use Rattle.rwc.specs.Acts.{Act, Seen, after_act, after_acts, BreaksOff}
-use Rattle.rwc.specs.Endings.{Ends, whole, unwritten, no_memory, no_memory_within, Follows, Keeps, follows, unread, unbegun}
-use Rattle.rwc.specs.Lines.{words_line, read_fault_line, write_fault_line, memory_line}
+use Rattle.rwc.specs.Endings.{Ends, whole, unwritten, no_memory_within, Follows, Keeps, follows, unread, unbegun}
+use Rattle.rwc.specs.Lines.{words_line, read_fault_line, write_fault_line}
 use Rattle.rwc.specs.Outcomes.{Tells}
-use Rattle.rwc.specs.Compiled.{Refused}
 use Rattle.rwc.specs.Reports.{Job, refusal_job, ContentLeads, BuildReports, CommandReports}
 use Rattle.rwc.specs.Stops.{IfStop, Breaks, stop_status, stop_line}
 

@@ -1,10 +1,9 @@
 -- Words and files report one job: each step of the way to it is a function.
-use Rattle.std.proofs.Common.{◌≡◌, ◌≢◌, ◌⊎◌, inl, inr, ℕ, ◌+◌, ◌<◌, ◌≤◌, ◌^◌, List, [], ◌∷◌, length, refl, ap, sym, ◌∙◌, subst, arith, Ok, Err, None, Some}
+use Rattle.std.proofs.Common.{◌≡◌, inl, inr, ℕ, List, ap, sym, ◌∙◌, subst, arith, Ok, Err, None, Some}
 use Rattle.std.specs.declared.option.Option.{Option}
 use Rattle.std.specs.declared.result.Result.{Result}
 use Rattle.wasm_ast.specs.declared.modules.WModule.{WModule}
 use Rattle.rw_types.specs.declared.modules.Module.{Module}
-use Rattle.rw_text.specs.Spells.{Spells}
 use Rattle.rw_text.proofs.Whole.{one_module}
 use Rattle.rich_meaning.specs.declared.notes.Note.{Note}
 use Rattle.rich_meaning.specs.Violations.{Violation}
@@ -40,7 +39,7 @@ module_one file m a b (refused v first f e x) (typed notes t leads) = absurd (mo
 module_one file m a b (typed notes t leads) (refused v first f e x) = absurd (module_never_both m notes v t first)
 module_one file m a b (typed notes t leads) (typed others u more) =
     checked_one (record { source = m; notes = notes }) a b leads
-        (subst (λ (n : List (List Note)). CheckedLeads (record { source = m; notes = n }) b) (one_derivation m others notes u t) more)
+    (subst (λ (n : List (List Note)). CheckedLeads (record { source = m; notes = n }) b) (one_derivation m others notes u t) more)
 
 text_one : (file bytes : List ℕ) (a b : Leads) → TextLeads file bytes a → TextLeads file bytes b → a ≡ b
 text_one file bytes a b (not_read none x) (not_read nothing y) = x ∙ sym y

@@ -1,6 +1,5 @@
 -- What stands after the last slash, one slash at a time.
-use Rattle.std.proofs.Common.{◌≡◌, ℕ, zero, suc, ◌+◌, ◌<◌, Bool, true, false, not, ◌||◌, List, [], ◌∷◌, length, drop, cond, refl, ap, sym, ◌∙◌, arith, ◌==◌, ◌≤◌, nat_lt, Some, None, position}
-use Rattle.std.specs.declared.option.Option.{Option}
+use Rattle.std.proofs.Common.{◌≡◌, ℕ, suc, ◌+◌, ◌<◌, Bool, true, false, not, ◌||◌, List, [], ◌∷◌, length, drop, cond, refl, ap, sym, ◌∙◌, arith, ◌==◌, ◌≤◌, nat_lt, Some, None, position}
 use Rattle.std.proofs.lemmas.Bool.Decides.{nat_tests}
 use Rattle.std.specs.List.{list_any, after_first, position_or_len}
 use Rattle.rwc.specs.Words.{after_last_slash}

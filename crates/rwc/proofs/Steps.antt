@@ -1,5 +1,5 @@
 -- One step of the way to a binary after another.
-use Rattle.std.proofs.Common.{◌≡◌, ◌⊎◌, ℕ, List, refl, ap, subst, sym, Ok, Err, Some, Vec, string_bytes}
+use Rattle.std.proofs.Common.{◌≡◌, ℕ, List, subst, sym, Ok, Err, Vec, string_bytes}
 use Rattle.std.specs.declared.alloc.Global.{Global}
 use Rattle.std.specs.declared.result.Result.{Result}
 use Rattle.std.specs.declared.alloc.AllocError.{AllocError}

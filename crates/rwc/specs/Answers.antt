@@ -5,7 +5,7 @@ use Rattle.std.specs.Io.KnownBytes.{append_known}
 use Rattle.rw_types.specs.declared.modules.Module.{Module}
 use Rattle.rw_text.specs.Spells.{Spells, SpellsNone}
 use Rattle.rich_meaning.specs.Violations.{Violation, FirstViolation}
-use Rattle.rw_io.specs.Files.{NamedFile, content_of}
+use Rattle.rw_io.specs.Files.{NamedFile}
 use Rattle.rwc.specs.Acts.{Act, create, append, put}
 use Rattle.rwc.specs.Reports.{Job, Reports, max_file_length}
 

@@ -1,6 +1,5 @@
 -- What stands after a file was built; this project's own.
 use Rattle.std.specs.Prelude.{◌≡◌, List, ℕ, ◌++◌, length, Some}
-use Rattle.std.specs.declared.option.Option.{Option}
 use Rattle.wasm_grammar.specs.CanonicalModules.{module_bytes}
 use Rattle.wasm_grammar.specs.GrammarModules.{SpellsModule}
 use Rattle.rw_types.specs.declared.modules.Module.{Module}

@@ -1,5 +1,5 @@
 -- How far a call comes with its job, and how it ends; this project's own.
-use Rattle.std.specs.Prelude.{◌≡◌, ℕ, ◌⊎◌, List, [], ◌++◌}
+use Rattle.std.specs.Prelude.{◌≡◌, ℕ, ◌⊎◌, List, ◌++◌}
 use Rattle.rw_io.specs.Counts.{Rose}
 use Rattle.rw_io.specs.States.{ShelfState, SinkState}
 use Rattle.rwc.specs.Acts.{Act, Seen, after_acts, BreaksOff}

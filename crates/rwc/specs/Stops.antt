@@ -8,7 +8,7 @@ use Rattle.rwc.specs.declared.ending.Done.TheVariants.{Finished, Trapped, Spent}
 use Rattle.rwc.specs.declared.ending.Stop.{Stop}
 use Rattle.rwc.specs.declared.ending.Stop.TheVariants.{Refused as IsRefused, Unread, Unwritten, Memory}
 use Rattle.rwc.specs.Acts.{Act, Seen, IsPart, after_act, after_acts}
-use Rattle.rwc.specs.Lines.{memory_line, read_fault_line, write_fault_line}
+use Rattle.rwc.specs.Lines.{memory_line, write_fault_line}
 use Rattle.rwc.specs.Compiled.{Refused}
 
 abbrev pub done_status : Done → ℕ

@@ -1,6 +1,10 @@
 // The top call: all that the program does.
-ghost use Rattle.std.specs.Prelude.{◌≡◌, ◌≢◌, ◌⊎◌, ℕ, List, Some, None, IsErr, string_bytes, map};
+ghost use Rattle.std.specs.Prelude.{◌≡◌, ◌≢◌, ◌≤◌, ◌⊎◌, ℕ, List, Some, None, IsErr, string_bytes, map, length};
+ghost use Rattle.rich_meaning.specs.declared.notes.Note.{Note};
+ghost use Rattle.rich_meaning.specs.Derivations.{IsTyped};
 ghost use Rattle.rw_io.specs.Counts.{Rose};
+ghost use Rattle.rw_text.specs.Spells.{Spells};
+ghost use Rattle.rw_types.specs.declared.modules.Module.{Module};
 ghost use Rattle.rw_io.specs.Files.{NamedFile, content_of};
 ghost use Rattle.rwc.specs.Acts.{seen_of};
 ghost use Rattle.rwc.specs.Answers.{text_of, PutsText, HasStatus, IsUnloadable, IsRefused};
@@ -8,7 +12,7 @@ ghost use Rattle.rwc.specs.Built.{Built};
 ghost use Rattle.rwc.specs.Endings.{Keeps, WriteRose};
 ghost use Rattle.rwc.specs.Lines.{words_line};
 ghost use Rattle.rwc.specs.Outcomes.{Tells, Outcome};
-ghost use Rattle.rwc.specs.Reports.{Job, Reports};
+ghost use Rattle.rwc.specs.Reports.{Job, Reports, max_file_length};
 ghost use Rattle.rwc.specs.Stops.{IsRefusal, stop_status, stop_line, status_of, line_of, IfStop, IfStopped};
 ghost use Rattle.rwc.specs.Words.{command_of, build};
 
@@ -43,6 +47,9 @@ pub fn rwc<S: Shelf, O: Sink, E: Sink>(
         → (S.state shelf.old).holding.files ≡ Some files → result.0 ≡ 1 → IsRefused (content_of files file) }
     ensures unloadable { (name file : List ℕ) (files : List NamedFile) → command_of (map string_bytes words.now) ≡ Some (build name file)
         → (S.state shelf.old).holding.files ≡ Some files → result.0 ≡ 3 → IsUnloadable (content_of files file) }
+    ensures accepted { (name file bytes : List ℕ) (files : List NamedFile) (m : Module) (notes : List (List Note)) → command_of (map string_bytes words.now) ≡ Some (build name file)
+        → (S.state shelf.old).holding.files ≡ Some files → content_of files file ≡ Some bytes → length bytes ≤ max_file_length → Spells bytes m → IsTyped m notes
+        → result.0 ≢ 4 → result.0 ≢ 5 → (result.0 ≡ 0) ⊎ (result.0 ≡ 8) }
     ensures untouched { (files : List NamedFile) → (S.state shelf.old).holding.files ≡ Some files → result.0 ≢ 0 → result.0 ≢ 5 → result.0 ≢ 8
         → seen_of (S.state shelf.new) (O.state out.new) ≡ seen_of (S.state shelf.old) (O.state out.old) }
     ensures words_refused { result.0 ≡ 2 → command_of (map string_bytes words.now) ≡ None }

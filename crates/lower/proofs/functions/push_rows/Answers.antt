@@ -1,4 +1,4 @@
-use Rattle.std.proofs.Common.{◌≡◌, ◌<◌, length, sym, subst, arith}
+use Rattle.std.proofs.Common.{◌<◌, length, sym, subst}
 use Rattle.rw_types.specs.LoneMain.{IsPlain}
 use Rattle.lower.specs.Heights.{IsWithin}
 use Rattle.lower.proofs.Lists.{plain_at, within_at}

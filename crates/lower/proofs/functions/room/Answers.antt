@@ -1,4 +1,4 @@
-use Rattle.std.proofs.Common.{◌≡◌, ◌<◌, ◌≤◌, length, sym, subst, arith}
+use Rattle.std.proofs.Common.{◌<◌, length, sym, subst, arith}
 use Rattle.lower.specs.Heights.{IsWithin}
 use Rattle.lower.proofs.Lists.{within_at, room_of-end}
 use Rattle.lower.proofs.functions.room.Goals as goal

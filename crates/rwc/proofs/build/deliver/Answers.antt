@@ -1,6 +1,6 @@
-use Rattle.std.proofs.Common.{◌≡◌, ℕ, List, [], ◌∷◌, refl, ap, sym, ◌∙◌, length, Ok, true}
-use Rattle.rwc.specs.Acts.{Act, Seen, create, append, put, after_act, after_acts, seen_of}
-use Rattle.rwc.specs.Endings.{Follows, no_memory, whole}
+use Rattle.std.proofs.Common.{◌≡◌, ℕ, List, [], ◌∷◌, refl, ap, sym, ◌∙◌, length, Ok}
+use Rattle.rwc.specs.Acts.{Seen, create, append, put, after_act, seen_of}
+use Rattle.rwc.specs.Endings.{no_memory, whole}
 use Rattle.rwc.specs.Lines.{wrote_line}
 use Rattle.rwc.specs.Reports.{build_job}
 use Rattle.rwc.proofs.Endings.{broken}

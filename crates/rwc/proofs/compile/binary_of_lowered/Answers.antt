@@ -1,6 +1,4 @@
-use Rattle.std.proofs.Common.{sym, subst, ap, Ok, refl, arith, ◌≡◌, ◌^◌, ◌≤◌, ◌<◌, length}
-use Rattle.std.specs.Result.{IsErrOf}
-use Rattle.wasm_encode.specs.Contents.{IsFirstTooLong}
+use Rattle.std.proofs.Common.{ap, Ok, refl, arith}
 use Rattle.wasm_spelling.proofs.SpelledModules.{canonical_bytes_spell}
 use Rattle.rwc.proofs.compile.binary_of_lowered.Goals as goal
 
@@ -13,6 +11,6 @@ returns-in-Ok-clause-leads c = record {
 -- no section is too long, since each content is short
 pub unreachable-requires : goal.unreachable-requires
 unreachable-requires c =
-  let told = rw c.in-Err-TooLong.field-0-is at c.in-Err-TooLong.ensures.long in
-  let long = told c.in-Err-TooLong.field-0-0 refl in
-  omega (arith, long.0, c.requires.short c.in-Err-TooLong.field-0-0)
+    let told = rw c.in-Err-TooLong.field-0-is at c.in-Err-TooLong.ensures.long in
+    let long = told c.in-Err-TooLong.field-0-0 refl in
+    omega (arith, long.0, c.requires.short c.in-Err-TooLong.field-0-0)

@@ -1,5 +1,4 @@
 use Rattle.std.proofs.Common.{◌≡◌, ◌++◌, drop, string_bytes}
-use Rattle.std.specs.Prelude.{decimal}
 use Rattle.rwc.specs.Refusals.{dotted, path_text}
 use Rattle.rwc.proofs.refusals.path_of.Given as goal
 

@@ -1,6 +1,6 @@
 use Rattle.std.proofs.Common.{List, ℕ, ap, ◌∙◌}
 use Rattle.std.proofs.lemmas.Result.{IfOk-weaker}
-use Rattle.rwc.specs.Refusals.{refused_at, rule_name}
+use Rattle.rwc.specs.Refusals.{refused_at}
 use Rattle.rwc.proofs.refusals.refused.Goals as goal
 
 pub returns : goal.returns
