@@ -4,3 +4,4 @@ pub mod Lowered
 pub mod Nested
 pub mod Fitting
 pub mod ShortContents
+pub mod SevenRow

@@ -2,3 +2,4 @@ pub mod Heights
 pub mod Parts
 pub mod Lone
 pub mod Laws
+pub mod SevenRow
