@@ -1,0 +1,50 @@
+-- A machine that makes steps and says events, and what is reached after so many steps. This project's own.
+use Rattle.std.specs.Prelude.{ℕ, zero, suc, List, [], ◌++◌}
+use Rattle.machine_steps.specs.declared.End.{End}
+
+-- one step: to another state, or to an end and the state there, with what is said on the way; or there is none
+pub data Turn (E A : Type 0) : Type 0 where
+  Went : List E → A → Turn E A
+  Ended : List E → End → A → Turn E A
+  NoStep : Turn E A
+
+-- how a run stands
+pub data Stand : Type 0 where
+  Going : Stand
+  Over : End → Stand
+  Stuck : Stand
+
+-- what was said so far, how the run stands, and its state
+pub record Reached (E A : Type 0) : Type 0 where
+  pub said : List E
+  pub stand : Stand
+  pub at : A
+
+-- with this said before
+abbrev pub onward : {E A : Type 0} → List E → Reached E A → Reached E A
+onward es r = record { said = es ++ r.said; stand = r.stand; at = r.at }
+
+-- on the way to a state, with this said
+abbrev pub going : {E A : Type 0} → List E → A → Reached E A
+going es a = record { said = es; stand = Going; at = a }
+
+-- what is reached by a step from a state, and then as `rest` says
+abbrev pub reached_by : {E A : Type 0} → Turn E A → A → (A → Reached E A) → Reached E A
+reached_by (Went es b) a rest = onward es (rest b)
+reached_by (Ended es e b) a rest = record { said = es; stand = Over e; at = b }
+reached_by NoStep a rest = record { said = []; stand = Stuck; at = a }
+
+-- what is reached after so many steps; what has ended stays
+abbrev pub reached : {E A : Type 0} → (A → Turn E A) → ℕ → A → Reached E A
+reached step zero a = going [] a
+reached step (suc n) a = reached_by (step a) a (reached step n)
+
+-- how many steps are made, of so many
+abbrev pub made_by : {E A : Type 0} → Turn E A → (A → ℕ) → ℕ
+made_by (Went es b) rest = suc (rest b)
+made_by (Ended es e b) rest = suc zero
+made_by NoStep rest = zero
+
+abbrev pub made : {E A : Type 0} → (A → Turn E A) → ℕ → A → ℕ
+made step zero a = zero
+made step (suc n) a = made_by (step a) (made step n)
