@@ -1,0 +1,4 @@
+pub mod Configurations
+pub mod Steps
+pub mod Starts
+pub mod Rows

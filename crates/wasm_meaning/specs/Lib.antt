@@ -1,0 +1,5 @@
+pub mod Configurations
+pub mod Environments
+pub mod Steps
+pub mod Starts
+pub mod Rows
