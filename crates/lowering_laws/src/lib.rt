@@ -1,0 +1,10 @@
+//! Laws of the lowering: a lowered module behaves as its program does.
+#![tactic(auto)]
+
+ghost use Rattle.lowering_laws.specs.Laws.{LoweredBehaves};
+
+/// A law: the lowered module of each program that is lowered so far prints and ends as the program's reduction does, both
+/// ways, unless it is exhausted.
+pub fn lowered_behaves()
+    ensures { LoweredBehaves }
+{}
