@@ -1,5 +1,5 @@
 -- A build that ended with status 0 has created the canonical bytes of the lowered module, whole, and said so.
-use Rattle.std.proofs.Common.{◌≡◌, ◌≢◌, ◌⊎◌, inl, inr, ℕ, List, [], ◌++◌, length, ap, sym, ◌∙◌, arith, Ok, Err, None, Some}
+use Rattle.std.proofs.Common.{◌∷◌, subst, refl, ◌≡◌, ◌≢◌, ◌⊎◌, inl, inr, ℕ, List, [], ◌++◌, length, ap, sym, ◌∙◌, arith, Ok, Err, None, Some}
 use Rattle.std.specs.declared.option.Option.{Option}
 use Rattle.std.specs.declared.result.Result.{Result}
 use Rattle.std.specs.Option.{option_map}
@@ -10,7 +10,15 @@ use Rattle.wasm_grammar.specs.GrammarModules.{SpellsModule}
 use Rattle.rw_types.specs.declared.modules.Module.{Module}
 use Rattle.rw_text.specs.Spells.{Spells}
 use Rattle.rich_meaning.specs.declared.notes.Note.{Note}
-use Rattle.rich_meaning.specs.Derivations.{IsTyped}
+use Rattle.rich_meaning.specs.Derivations.{Derives, HaveDerivations, IsTyped}
+use Rattle.rich_meaning.specs.Table.{unr_i64}
+use Rattle.rw_types.specs.declared.instrs.Instr.{Instr}
+use Rattle.rw_types.specs.LoneMain.{lone_main}
+use Rattle.rw_program.specs.LonePrograms.{IsLoneProgram, lone_program}
+use Rattle.machine_steps.specs.Agreement.{Alike}
+use Rattle.rich_steps.specs.Starts.{rich}
+use Rattle.wasm_meaning.specs.Starts.{wasm}
+use Rattle.lowering_laws.proofs.Behaves.{lowered_behaves}
 use Rattle.rw_program.specs.Linking.{program_of}
 use Rattle.rw_program.specs.Programs.{Program}
 use Rattle.lowering_table.specs.Modules.{low_module}
@@ -52,6 +60,28 @@ not_zero : (status : ℕ) → IsRefusal status → status ≢ 0
 not_zero status (inl one) zero = absurd (omega arith)
 not_zero status (inr three) zero = absurd (omega arith)
 
+-- the program of a typed module is one that is lowered so far
+record OneBody (body : List Instr) (notes : List (List Note)) : Type 0 where
+  own : List Note
+  is : notes ≡ own ∷ []
+  derived : Derives [] body [] own (unr_i64 ∷ [])
+
+one_body : (body : List Instr) (notes : List (List Note)) → HaveDerivations (lone_main body).funcs notes → OneBody body notes
+one_body body [] h = absurd h
+one_body body (own ∷ []) h = record { own = own; is = refl; derived = h.0 }
+one_body body (own ∷ other ∷ more) h = absurd h.1
+
+same_program : (a b : Program) → (let o : Option Program = Some a in o) ≡ Some b → b ≡ a
+same_program a b e = cc
+
+program_lone : (source : Module) (notes : List (List Note)) (q : Program) → IsTyped source notes → program_of (record { source = source; notes = notes }) ≡ Some q → IsLoneProgram q
+program_lone source notes q t linked =
+    let body = t.lone.body in
+    let one = one_body body notes (subst (λ (m : Module). HaveDerivations m.funcs notes) t.lone.is t.bodies) in
+    let whole : program_of (record { source = source; notes = notes }) ≡ Some (lone_program body one.own) =
+    ap (λ (m : Module). program_of (record { source = m; notes = notes })) t.lone.is ∙ ap (λ (all : List (List Note)). program_of (record { source = lone_main body; notes = all })) one.is in
+    record { body = body; notes = one.own; is = same_program (lone_program body one.own) q (sym whole ∙ linked); plain = t.lone.plain; short = t.lone.short; derived = one.derived }
+
 -- what an accepted text leads to
 record Accepted (bytes binary : List ℕ) : Type 0 where
   source : Module
@@ -61,6 +91,7 @@ record Accepted (bytes binary : List ℕ) : Type 0 where
   program : Program
   linked : program_of (record { source = source; notes = notes }) ≡ Some program
   means : SpellsModule (module_bytes (low_module program default_pages)) (low_module program default_pages)
+  behaves : Alike (λ n. rich program n) (λ m. wasm (low_module program default_pages) m)
   is : binary ≡ module_bytes (low_module program default_pages)
 
 pub same_bytes : (a b : List ℕ) → (let r : Result (List ℕ) Refused = Ok a in r) ≡ Ok b → a ≡ b
@@ -76,6 +107,7 @@ module_accepted file bytes binary m spells (typed notes t leads) = record {
   program = leads.program;
   linked = leads.linked;
   means = leads.leads.spells;
+  behaves = lowered_behaves leads.program default_pages (program_lone m notes leads.program t leads.linked);
   is = same_bytes _ _ leads.leads.is;
 }
 
@@ -123,6 +155,7 @@ finished files name file said created shelf shelf' out out' (Ok binary) done lea
       program = a.accepted.program;
       linked = a.accepted.linked;
       means = a.accepted.means;
+      behaves = a.accepted.behaves;
       created = created_after name binary [] created (seen_of shelf out) (seen_of shelf' out') s told ∙ ap (λ (b : List ℕ). Some (name, b)) a.accepted.is;
       told = out_after name binary said (seen_of shelf out) (seen_of shelf' out') s heard ∙ ap (λ (b : List ℕ). Some (said ++ wrote_line name (length b))) a.accepted.is;
     }
