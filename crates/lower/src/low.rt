@@ -3,6 +3,9 @@ ghost use Rattle.std.specs.Prelude.{◌≡◌, [], ◌∷◌, ◌++◌, IfOk};
 ghost use Rattle.wasm_grammar.specs.Nesting.{ModuleNestsAtMost, nesting_limit};
 ghost use Rattle.wasm_grammar.specs.Profile.{IsInProfile};
 ghost use Rattle.wasm_spelling.specs.SpellingLaws.{HasShortContents};
+ghost use Rattle.machine_steps.specs.Agreement.{Alike};
+ghost use Rattle.rich_steps.specs.Starts.{rich};
+ghost use Rattle.wasm_meaning.specs.Starts.{wasm};
 ghost use Rattle.rw_program.specs.LonePrograms.{IsLoneProgram, lone_func, lone_program};
 ghost use Rattle.lowering_table.specs.Allocators.{unreachable_code};
 ghost use Rattle.lowering_table.specs.Modules.{ArePages, low_function, low_module, main_code};
@@ -22,6 +25,7 @@ pub fn lower(alloc: Global, p: &Linked, pages: &Pages) -> Result<WModule, LowerE
     ensures nests { IfOk result (ModuleNestsAtMost nesting_limit) }
     ensures profile { IfOk result IsInProfile }
     ensures short { IfOk result HasShortContents }
+    ensures behaves { IfOk result (λ lowered. Alike (λ n. rich p.now n) (λ m. wasm lowered m)) }
 {
     let [func] = p.funcs().as_slice() else {
         unreachable!()

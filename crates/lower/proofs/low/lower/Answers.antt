@@ -2,6 +2,11 @@ use Rattle.std.proofs.Common.{refl, sym, subst, ◌∙◌}
 use Rattle.wasm_grammar.specs.Nesting.{ModuleNestsAtMost, nesting_limit}
 use Rattle.wasm_grammar.specs.Profile.{IsInProfile}
 use Rattle.wasm_spelling.specs.SpellingLaws.{HasShortContents}
+use Rattle.wasm_ast.specs.declared.modules.WModule.{WModule}
+use Rattle.machine_steps.specs.Agreement.{Alike}
+use Rattle.rich_steps.specs.Starts.{rich}
+use Rattle.wasm_meaning.specs.Starts.{wasm}
+use Rattle.lowering_laws.proofs.Behaves.{lowered_behaves}
 use Rattle.lower.proofs.Fitting.{low_is_in_profile}
 use Rattle.lower.proofs.ShortContents.{low_has_short_contents}
 use Rattle.lower.proofs.Nested.{nests}
@@ -33,3 +38,7 @@ returns-clause-profile c =
 pub returns-clause-short : goal.returns-clause-short
 returns-clause-short c =
     subst HasShortContents (sym (returns-clause-low c)) (low_has_short_contents c.args.p.now c.args.pages.now c.funcs.ensures.form c.requires)
+
+pub returns-clause-behaves : goal.returns-clause-behaves
+returns-clause-behaves c =
+    subst (λ (m : WModule). Alike (λ n. rich c.args.p.now n) (λ k. wasm m k)) (sym (returns-clause-low c)) (lowered_behaves c.args.p.now c.args.pages.now c.funcs.ensures.form)
