@@ -34,7 +34,7 @@ module _ {E A : Type 0} (step : A → Turn E A) where
   said_first (suc k) zero le a = absurd (omega (arith, le))
   said_first (suc k) (suc n) le a = said_by k n (step a) a (λ b. said_first k n (omega (arith, le)) b)
 
-same_seen : (s t : Seen) → s.printed ≡ t.printed → s.stand ≡ t.stand → s ≡ t
+pub same_seen : (s t : Seen) → s.printed ≡ t.printed → s.stand ≡ t.stand → s ≡ t
 same_seen s t p q = λ i. record { printed = p i; stand = q i }
 
 module _ {D E A B : Type 0} (Fits Meets : List D → List E → Type 0) (Holds : List E → B → Type 0)

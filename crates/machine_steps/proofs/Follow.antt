@@ -102,7 +102,7 @@ module _ {D E A B : Type 0} (Fits Meets : List D → List E → Type 0) (Holds :
   keeps_on : (ds ds' : List D) (es es' : List E) (s : Reached D A) (t : Reached E B) → TheKeeps (ds ++ ds') (es ++ es') s t → TheKeeps ds es (onward ds' s) (onward es' t)
   keeps_on ds ds' es es' s t h = record { fits = fits_on ds ds' es es' Fits s.said t.said h.fits; stand = h.stand }
 
-  no_more : (ds : List D) (es : List E) → Fits ds es → Fits (ds ++ []) es
+  pub no_more : (ds : List D) (es : List E) → Fits ds es → Fits (ds ++ []) es
   no_more ds es h = subst (λ (l : List D). Fits l es) (sym (append-nil ds)) h
 
   -- the target is on its way within a step of the source, which has made none or is at its end
@@ -221,25 +221,34 @@ module _ {D E A B : Type 0} (Fits Meets : List D → List E → Type 0) (Holds :
         subst (λ (s : Reached D A). Fits (ds ++ s.said) (es ++ (es' ++ t.said))) (sym ef) (fits_on ds ds' es es' Fits (reached f h.earlier a').said t.said h.fits);
   }
 
+  -- the histories fit and both stand alike after a step of the source, and the rest
+  pub keeps_moves : {ds ds' : List D} {es : List E} {a a' : A} {b : B} {s : ℕ} → (n k : ℕ) → f a ≡ Went ds' a' → (h : TheMoves ds ds' es s a' b) →
+      TheKeeps (ds ++ ds') (es ++ h.said) (reached f n a') (reached g k h.to) → TheKeeps ds es (reached f (suc n) a) (reached g (h.steps + k) b)
+  keeps_moves {ds} {ds'} {es} {a} {a'} {b} n k fa h keeps =
+      let eg : reached g (h.steps + k) b ≡ onward h.said (reached g k h.to) = comes_later g (h.steps + k) k refl h.comes in
+      let ef : reached f (suc n) a ≡ onward ds' (reached f n a') = ap (λ o. reached_by o a (reached f n)) fa in
+      subst (λ (x : Reached D A). TheKeeps ds es x (reached g (h.steps + k) b)) (sym ef)
+      (subst (TheKeeps ds es (onward ds' (reached f n a'))) (sym eg) (keeps_on ds ds' es h.said (reached f n a') (reached g k h.to) keeps))
+
+  -- and at its end
+  pub keeps_ends : {ds ds' : List D} {es : List E} {e : End} {a a' : A} {b : B} → (n : ℕ) → f a ≡ Ended ds' e a' → (h : TheEnds ds ds' es e b) →
+      TheKeeps ds es (reached f (suc n) a) (reached g (h.stops.steps + suc zero) b)
+  keeps_ends {ds} {ds'} {es} {e} {a} {a'} {b} n fa h =
+      let at : TheKeeps ds es (record { said = ds'; stand = Over e; at = a' }) (record { said = h.stops.said ++ h.stops.last; stand = Over e; at = h.stops.final }) = record { fits = h.stops.fits; stand = refl } in
+      let ef : reached f (suc n) a ≡ record { said = ds'; stand = Over e; at = a' } = ap (λ o. reached_by o a (reached f n)) fa in
+      subst (λ (x : Reached D A). TheKeeps ds es x (reached g (h.stops.steps + suc zero) b)) (sym ef)
+      (subst (TheKeeps ds es (record { said = ds'; stand = Over e; at = a' })) (sym (stopped h.stops zero (h.stops.steps + suc zero) refl)) at)
+
   forth_turn : (ds : List D) (es : List E) (n : ℕ) (a : A) (b : B) (t : Turn D A) (s : ℕ) → f a ≡ t → ((ds : List D) (a : A) (es : List E) (b : B) → R ds a es b → Forth ds es n a b) → TheAnswers ds es t s b → Forth ds es (suc n) a b
   forth_turn ds es n a b (Went ds' a') s fa again h =
-      let r = again (ds ++ ds') a' (es ++ h.said) h.to h.related in
-      let m = h.steps + r.0 in
-      let eg : reached g m b ≡ onward h.said (reached g r.0 h.to) = comes_later g m r.0 refl h.comes in
-      let ef : reached f (suc n) a ≡ onward ds' (reached f n a') = ap (λ o. reached_by o a (reached f n)) fa in (
-        m,
+      let r = again (ds ++ ds') a' (es ++ h.said) h.to h.related in (
+        h.steps + r.0,
         ⊎_elim
-            (λ k. inl (subst (λ (x : Reached D A). TheKeeps ds es x (reached g m b)) (sym ef) (subst (TheKeeps ds es (onward ds' (reached f n a'))) (sym eg) (keeps_on ds ds' es h.said (reached f n a') (reached g r.0 h.to) k))))
-            (λ k. inr (subst (TheGaveUp ds es (suc n) a) (sym eg) (gave_up_on ds ds' es h.said n a a' (reached g r.0 h.to) fa k)))
+            (λ k. inl (keeps_moves n r.0 fa h k))
+            (λ k. inr (subst (TheGaveUp ds es (suc n) a) (sym (comes_later g (h.steps + r.0) r.0 refl h.comes)) (gave_up_on ds ds' es h.said n a a' (reached g r.0 h.to) fa k)))
             r.1,
       )
-  forth_turn ds es n a b (Ended ds' e a') s fa again h =
-      let at : TheKeeps ds es (record { said = ds'; stand = Over e; at = a' }) (record { said = h.stops.said ++ h.stops.last; stand = Over e; at = h.stops.final }) = record { fits = h.stops.fits; stand = refl } in
-      let ef : reached f (suc n) a ≡ record { said = ds'; stand = Over e; at = a' } = ap (λ o. reached_by o a (reached f n)) fa in (
-        h.stops.steps + suc zero,
-        inl (subst (λ (x : Reached D A). TheKeeps ds es x (reached g (h.stops.steps + suc zero) b)) (sym ef)
-            (subst (TheKeeps ds es (record { said = ds'; stand = Over e; at = a' })) (sym (stopped h.stops zero (h.stops.steps + suc zero) refl)) at)),
-      )
+  forth_turn ds es n a b (Ended ds' e a') s fa again h = (h.stops.steps + suc zero, inl (keeps_ends n fa h))
   forth_turn ds es n a b NoStep s fa again h = absurd h
 
   pub follows : Follows Fits Meets Holds f g R size → (a : A) (b : B) (ds : List D) (es : List E) → R ds a es b → Throughout Fits Meets Holds f g R size ds es a b

@@ -57,6 +57,11 @@ module _ {D E A B : Type 0} (Fits Meets : List D → List E → Type 0) (Holds :
     pub fits : (ds : List D) (a : A) (es : List E) (b : B) → R ds a es b → Fits ds es × Holds es b
     pub answers : (ds : List D) (a : A) (es : List E) (b : B) → R ds a es b → Answers ds es (f a) (size a) b ⊎ Stops ds ds es (Trap Exhausted) b
 
+  -- each step from related histories and states is answered, and the target never gives up in its place
+  pub record Answered : Type 0 where
+    pub fits : (ds : List D) (a : A) (es : List E) (b : B) → R ds a es b → Fits ds es × Holds es b
+    pub answers : (ds : List D) (a : A) (es : List E) (b : B) → R ds a es b → Answers ds es (f a) (size a) b
+
   -- the target's history and state fit the source's, which has ended as the target has
   pub record Matches (ds : List D) (es : List E) (s : Reached D A) (t : Reached E B) : Type 0 where
     pub fits : Fits (ds ++ s.said) (es ++ t.said)

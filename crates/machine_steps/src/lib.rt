@@ -2,12 +2,14 @@
 //! and the theorem that a machine which follows another one step by step behaves as it does.
 #![tactic(auto)]
 
-ghost use Rattle.std.specs.Prelude.{◌≡◌, ℕ, suc, List, []};
+ghost use Rattle.std.specs.Prelude.{◌≡◌, ◌⊎◌, ℕ, ℤ, suc, List, []};
 ghost use Rattle.std.specs.List.{flat_map};
 ghost use Rattle.machine_steps.specs.declared.End.{End};
-ghost use Rattle.machine_steps.specs.Steps.{Turn, Over, reached};
+ghost use Rattle.machine_steps.specs.declared.End.TheVariants.{Value};
+ghost use Rattle.machine_steps.specs.Steps.{Turn, Going, Over, reached};
 ghost use Rattle.machine_steps.specs.Agreement.{seen, Alike};
-ghost use Rattle.machine_steps.specs.Simulations.{Follows, Throughout};
+ghost use Rattle.machine_steps.specs.Ending.{BothEnd};
+ghost use Rattle.machine_steps.specs.Simulations.{Follows, Throughout, Answered, Keeps};
 
 /// Why a run stops without a value; this project's own.
 #[derive(Clone, Copy, Debug, PartialEq, Eq)]
@@ -73,6 +75,29 @@ pub fn follows_alike<S: Simulation>()
         → ((ds : List S.Said) (es : List S.Answer) → S.fits ds es → flat_map target es ≡ flat_map source ds)
         → Follows S.fits S.meets S.holds S.source S.target S.related S.size → (a : S.Source) (b : S.Target) → S.related [] a [] b
         → Alike (λ n. seen source (reached S.source n a)) (λ m. seen target (reached S.target m b)) }
+{}
+
+/// A law: where each step of the source is answered, and the target never gives up in its place, for any number of steps of
+/// the source there is a number of steps of the target after which the histories fit and both stand alike.
+pub fn answered_throughout<S: Simulation>()
+    ensures { Answered S.fits S.meets S.holds S.source S.target S.related S.size → (a : S.Source) (b : S.Target) → S.related [] a [] b → (n : ℕ)
+        → (m : ℕ) × Keeps S.fits S.meets S.holds S.source S.target S.related S.size [] [] (reached S.source n a) (reached S.target m b) }
+{}
+
+/// A law: where each step of the source is so answered, histories that fit print the same, and the source ends with a value,
+/// neither is ever stuck or exhausted, and both end with the same numbers printed and that value.
+pub fn answered_both_end<S: Simulation>()
+    ensures { (source : S.Said → List ℕ) (target : S.Answer → List ℕ)
+        → ((ds : List S.Said) (es : List S.Answer) → S.fits ds es → flat_map target es ≡ flat_map source ds)
+        → Answered S.fits S.meets S.holds S.source S.target S.related S.size → (a : S.Source) (b : S.Target) → S.related [] a [] b
+        → (n : ℕ) (v : ℤ) → (reached S.source n a).stand ≡ Over (Value v)
+        → BothEnd (λ n. seen source (reached S.source n a)) (λ m. seen target (reached S.target m b)) }
+{}
+
+/// A law: a run that has ended after some number of steps is after any number of steps on its way, or as it is there.
+pub fn ends_once<E, A>()
+    ensures { (step : A → Turn E A) (n m : ℕ) (a : A) (e : End) → (reached step n a).stand ≡ Over e
+        → ((reached step m a).stand ≡ Going) ⊎ (reached step m a ≡ reached step n a) }
 {}
 
 /// A law: what has ended stays as it is.
