@@ -42,16 +42,6 @@ enter n (Some f) arguments c = Went [] (record c {
 abbrev pub goes_on : Here → List Here → Config → Turn Event Config
 goes_on here callers c = Went [] (record c { calls = here ∷ callers })
 
--- an instruction; `here` has what follows it as its rest
-abbrev pub act : i.Instr → Here → List Here → Config → Turn Event Config
-act (i.I64Const n) here callers c = goes_on (record here { operands = Number n ∷ here.operands }) callers c
-act (i.Num I64Add) here callers c =
-    with_number here.operands (λ right under. with_number under (λ left beneath. goes_on (record here { operands = Number ((left + right) % 2 ^ 64) ∷ beneath }) callers c))
-act i.Print here callers c =
-    with_number here.operands (λ n beneath. Went (Print n ∷ []) (record c { calls = record here { operands = beneath } ∷ callers }))
-act i.Drop here callers c = with_top 1 here.operands (λ vs beneath. goes_on (record here { operands = beneath }) callers c)
-act _ here callers c = NoStep
-
 -- a call is over with these results
 abbrev pub give : List Val → List Here → Config → Turn Event Config
 give vs [] c = Went [] (record c { calls = []; results = vs ++ c.results })
@@ -72,6 +62,16 @@ module _ (funcs : List LinkedFunc) where
   leave [] here callers c = leave_function (slice_get funcs here.function) here callers c
   leave (l ∷ levels) here callers c =
       with_top l.gives here.operands (λ vs beneath. goes_on (record here { binders = l.binders; operands = vs ++ l.beneath; rest = l.rest; levels = levels }) callers c)
+
+  -- an instruction; `here` has what follows it as its rest
+  abbrev pub act : i.Instr → Here → List Here → Config → Turn Event Config
+  act (i.I64Const n) here callers c = goes_on (record here { operands = Number n ∷ here.operands }) callers c
+  act (i.Num I64Add) here callers c =
+      with_number here.operands (λ right under. with_number under (λ left beneath. goes_on (record here { operands = Number ((left + right) % 2 ^ 64) ∷ beneath }) callers c))
+  act i.Print here callers c =
+      with_number here.operands (λ n beneath. Went (Print n ∷ []) (record c { calls = record here { operands = beneath } ∷ callers }))
+  act i.Drop here callers c = with_top 1 here.operands (λ vs beneath. goes_on (record here { operands = beneath }) callers c)
+  act _ here callers c = NoStep
 
   abbrev pub step_in : List i.Instr → Here → List Here → Config → Turn Event Config
   step_in [] here callers c = leave here.levels here callers c

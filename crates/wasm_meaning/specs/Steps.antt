@@ -81,6 +81,22 @@ module _ (e : Environment) where
         | Some code ↦ enter n f arguments (waiting ∷ c.callers) c.bottom c.store
       ])
 
+  -- the value that the first call ends with
+  abbrev pub ends_with : List ℕ → Config → Turn Event Config
+  ends_with (v ∷ []) c = Ended [] (Value (cast_signed w64 v)) c
+  ends_with _ c = NoStep
+
+  -- a call is over with these results
+  abbrev pub give : List ℕ → List Here → Bottom → Config → Turn Event Config
+  give vs (caller ∷ callers) bottom c = Went [] (record c { here = record caller { operands = vs ++ caller.operands }; callers = callers })
+  give vs [] TheEnd c = ends_with vs c
+  give vs [] (ThenCall n) c = with_found (slice_get e.functions n) (λ f. enter n f [] [] TheEnd c.store)
+
+  -- the end of a list (4.4.6)
+  abbrev pub leave : List Level → Here → Config → Turn Event Config
+  leave [] here c = with_found (slice_get e.functions here.function) (λ f. with_top (results_of f.ty.result) here.operands (λ vs beneath. give vs c.callers c.bottom c))
+  leave (l ∷ levels) here c = with_top l.gives here.operands (λ vs beneath. goes_on (record here { operands = vs ++ l.beneath; rest = l.rest; levels = levels }) c)
+
   -- an instruction, by its layer; `here` has what follows it as its rest
   abbrev pub act : WInstr-F WInstr → Here → Config → Turn Event Config
   act WInstr-F.Unreachable here c = Ended [] (Trap (reason_in e c.store)) c
@@ -98,22 +114,6 @@ module _ (e : Environment) where
   act WInstr-F.I64Add here c = with_top 2 here.operands (λ vs beneath. goes_on (record here { operands = (elim vs [ [] ↦ 0 | v ∷ us ↦ (first_or_zero us + v) % 2 ^ 64 ]) ∷ beneath }) c)
   act (WInstr-F.Call n) here c = with_found (slice_get e.functions n) (λ f. call n f here c)
   act _ here c = NoStep
-
-  -- the value that the first call ends with
-  abbrev pub ends_with : List ℕ → Config → Turn Event Config
-  ends_with (v ∷ []) c = Ended [] (Value (cast_signed w64 v)) c
-  ends_with _ c = NoStep
-
-  -- a call is over with these results
-  abbrev pub give : List ℕ → List Here → Bottom → Config → Turn Event Config
-  give vs (caller ∷ callers) bottom c = Went [] (record c { here = record caller { operands = vs ++ caller.operands }; callers = callers })
-  give vs [] TheEnd c = ends_with vs c
-  give vs [] (ThenCall n) c = with_found (slice_get e.functions n) (λ f. enter n f [] [] TheEnd c.store)
-
-  -- the end of a list (4.4.6)
-  abbrev pub leave : List Level → Here → Config → Turn Event Config
-  leave [] here c = with_found (slice_get e.functions here.function) (λ f. with_top (results_of f.ty.result) here.operands (λ vs beneath. give vs c.callers c.bottom c))
-  leave (l ∷ levels) here c = with_top l.gives here.operands (λ vs beneath. goes_on (record here { operands = vs ++ l.beneath; rest = l.rest; levels = levels }) c)
 
   abbrev pub step_at : List WInstr → Config → Turn Event Config
   step_at [] c = leave c.here.levels c.here c
