@@ -1,2 +1,6 @@
 pub mod Locals
+pub mod Values
+pub mod Walks
+pub mod Relation
+pub mod Instructions
 pub mod Behaves
