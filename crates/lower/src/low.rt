@@ -4,6 +4,7 @@ ghost use Rattle.wasm_grammar.specs.Nesting.{ModuleNestsAtMost, nesting_limit};
 ghost use Rattle.wasm_grammar.specs.Profile.{IsInProfile};
 ghost use Rattle.wasm_spelling.specs.SpellingLaws.{HasShortContents};
 ghost use Rattle.machine_steps.specs.Agreement.{Alike};
+ghost use Rattle.machine_steps.specs.Ending.{BothEnd};
 ghost use Rattle.rich_steps.specs.Starts.{rich};
 ghost use Rattle.wasm_meaning.specs.Starts.{wasm};
 ghost use Rattle.rw_program.specs.LonePrograms.{IsLoneProgram, lone_func, lone_program};
@@ -26,6 +27,7 @@ pub fn lower(alloc: Global, p: &Linked, pages: &Pages) -> Result<WModule, LowerE
     ensures profile { IfOk result IsInProfile }
     ensures short { IfOk result HasShortContents }
     ensures behaves { IfOk result (λ lowered. Alike (λ n. rich p.now n) (λ m. wasm lowered m)) }
+    ensures ends { IfOk result (λ lowered. BothEnd (λ n. rich p.now n) (λ m. wasm lowered m)) }
 {
     let [func] = p.funcs().as_slice() else {
         unreachable!()

@@ -4,9 +4,10 @@ use Rattle.wasm_grammar.specs.Profile.{IsInProfile}
 use Rattle.wasm_spelling.specs.SpellingLaws.{HasShortContents}
 use Rattle.wasm_ast.specs.declared.modules.WModule.{WModule}
 use Rattle.machine_steps.specs.Agreement.{Alike}
+use Rattle.machine_steps.specs.Ending.{BothEnd}
 use Rattle.rich_steps.specs.Starts.{rich}
 use Rattle.wasm_meaning.specs.Starts.{wasm}
-use Rattle.lowering_laws.proofs.Behaves.{lowered_behaves}
+use Rattle.lowering_laws.proofs.Behaves.{lowered_behaves, lowered_ends}
 use Rattle.lower.proofs.Fitting.{low_is_in_profile}
 use Rattle.lower.proofs.ShortContents.{low_has_short_contents}
 use Rattle.lower.proofs.Nested.{nests}
@@ -42,3 +43,7 @@ returns-clause-short c =
 pub returns-clause-behaves : goal.returns-clause-behaves
 returns-clause-behaves c =
     subst (λ (m : WModule). Alike (λ n. rich c.args.p.now n) (λ k. wasm m k)) (sym (returns-clause-low c)) (lowered_behaves c.args.p.now c.args.pages.now c.funcs.ensures.form)
+
+pub returns-clause-ends : goal.returns-clause-ends
+returns-clause-ends c =
+    subst (λ (m : WModule). BothEnd (λ n. rich c.args.p.now n) (λ k. wasm m k)) (sym (returns-clause-low c)) (lowered_ends c.args.p.now c.args.pages.now c.funcs.ensures.form)
