@@ -16,9 +16,10 @@ use Rattle.rw_types.specs.declared.instrs.Instr.{Instr}
 use Rattle.rw_types.specs.LoneMain.{lone_main}
 use Rattle.rw_program.specs.LonePrograms.{IsLoneProgram, lone_program}
 use Rattle.machine_steps.specs.Agreement.{Alike}
+use Rattle.machine_steps.specs.Ending.{BothEnd}
 use Rattle.rich_steps.specs.Starts.{rich}
 use Rattle.wasm_meaning.specs.Starts.{wasm}
-use Rattle.lowering_laws.proofs.Behaves.{lowered_behaves}
+use Rattle.lowering_laws.proofs.Behaves.{lowered_behaves, lowered_ends}
 use Rattle.rw_program.specs.Linking.{program_of}
 use Rattle.rw_program.specs.Programs.{Program}
 use Rattle.lowering_table.specs.Modules.{low_module}
@@ -92,6 +93,7 @@ record Accepted (bytes binary : List ℕ) : Type 0 where
   linked : program_of (record { source = source; notes = notes }) ≡ Some program
   means : SpellsModule (module_bytes (low_module program default_pages)) (low_module program default_pages)
   behaves : Alike (λ n. rich program n) (λ m. wasm (low_module program default_pages) m)
+  ends : BothEnd (λ n. rich program n) (λ m. wasm (low_module program default_pages) m)
   is : binary ≡ module_bytes (low_module program default_pages)
 
 pub same_bytes : (a b : List ℕ) → (let r : Result (List ℕ) Refused = Ok a in r) ≡ Ok b → a ≡ b
@@ -108,6 +110,7 @@ module_accepted file bytes binary m spells (typed notes t leads) = record {
   linked = leads.linked;
   means = leads.leads.spells;
   behaves = lowered_behaves leads.program default_pages (program_lone m notes leads.program t leads.linked);
+  ends = lowered_ends leads.program default_pages (program_lone m notes leads.program t leads.linked);
   is = same_bytes _ _ leads.leads.is;
 }
 
@@ -156,6 +159,7 @@ finished files name file said created shelf shelf' out out' (Ok binary) done lea
       linked = a.accepted.linked;
       means = a.accepted.means;
       behaves = a.accepted.behaves;
+      ends = a.accepted.ends;
       created = created_after name binary [] created (seen_of shelf out) (seen_of shelf' out') s told ∙ ap (λ (b : List ℕ). Some (name, b)) a.accepted.is;
       told = out_after name binary said (seen_of shelf out) (seen_of shelf' out') s heard ∙ ap (λ (b : List ℕ). Some (said ++ wrote_line name (length b))) a.accepted.is;
     }
