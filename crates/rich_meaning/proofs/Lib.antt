@@ -1,3 +1,4 @@
 pub mod Unique
 pub mod LoneBodies
+pub mod Built
 pub mod LoneModules

@@ -8,13 +8,14 @@ use Rattle.rw_types.specs.declared.types.Ty.{Ty}
 use Rattle.rw_types.specs.LoneMain.{IsLoneMain, main_type}
 use Rattle.rich_meaning.specs.declared.notes.Note.{Note}
 use Rattle.rich_meaning.specs.declared.notes.Place.{Place}
-use Rattle.rich_meaning.specs.declared.notes.Place.TheVariants.{FuncAt}
+use Rattle.rich_meaning.specs.declared.notes.Place.TheVariants.{FuncType, FuncAt}
 use Rattle.rich_meaning.specs.declared.rules.Rule.{Rule}
-use Rattle.rich_meaning.specs.declared.rules.Rule.TheVariants.{Operands, BlockEnd}
+use Rattle.rich_meaning.specs.declared.rules.Rule.TheVariants.{Operands, BlockEnd, NotYetBuilt}
 use Rattle.rich_meaning.specs.Derivations.{Derives, HasDerivation, HaveDerivations, IsTyped, demanded}
 use Rattle.rich_meaning.specs.Violations.{Violation, FirstViolation, in_body, not_built, BreaksBody}
 use Rattle.rich_meaning.proofs.Unique.{derives_one, never_both, violation_one, Same}
 use Rattle.rich_meaning.proofs.LoneBodies.{lone_body}
+use Rattle.rich_meaning.proofs.Built.{is_built}
 
 -- the derivations of the functions are the same in each derivation
 have_one : (fs : List FuncDef) (notes notes' : List (List Note)) → HaveDerivations fs notes → HaveDerivations fs notes' → notes ≡ notes'
@@ -81,6 +82,13 @@ lone_module m lone = elim (lone_body lone.body lone.plain 0) [
     refl,
     refl,
   )
+]
+
+-- what every module has: a derivation, or a first violation
+pub typed_or_refused : (m : Module) → ((notes : List (List Note)) × IsTyped m notes) ⊎ ((v : Violation) × FirstViolation m v)
+typed_or_refused m = elim (is_built m) [
+  | inl lone ↦ elim (lone_module m lone) [ inl t ↦ inl t | inr v ↦ inr (v.0, v.1) ]
+  | inr other ↦ inr (record { place = FuncType 0; broken = NotYetBuilt; found = None; expected = None }, not_built other refl refl refl refl)
 ]
 
 pub lone_refused : (m : Module) (v : Violation) → IsLoneMain m → FirstViolation m v → ((v.broken ≡ Operands) ⊎ (v.broken ≡ BlockEnd)) × (v.found ≡ None) × (v.expected ≡ None)

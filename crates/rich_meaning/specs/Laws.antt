@@ -1,5 +1,5 @@
--- What holds of derivations and first violations: a module has one or the other, and one of it. This
--- project's own.
+-- What holds of derivations and first violations: every module has one or the other, and one of it.
+-- This project's own.
 use Rattle.std.specs.Prelude.{◌≡◌, ◌⊎◌, List, None}
 use Rattle.rw_types.specs.declared.modules.Module.{Module}
 use Rattle.rw_types.specs.LoneMain.{IsLoneMain}
@@ -8,9 +8,9 @@ use Rattle.rich_meaning.specs.declared.rules.Rule.TheVariants.{Operands, BlockEn
 use Rattle.rich_meaning.specs.Derivations.{IsTyped}
 use Rattle.rich_meaning.specs.Violations.{Violation, FirstViolation}
 
--- a module that is built so far is well typed or has a first violation
+-- every module is well typed or has a first violation
 abbrev pub TypedOrRefused : Type 0
-TypedOrRefused = (m : Module) → IsLoneMain m → ((notes : List (List Note)) × IsTyped m notes) ⊎ ((v : Violation) × FirstViolation m v)
+TypedOrRefused = (m : Module) → ((notes : List (List Note)) × IsTyped m notes) ⊎ ((v : Violation) × FirstViolation m v)
 
 -- no module is well typed and has a first violation
 abbrev pub NeverBoth : Type 0

@@ -1,6 +1,7 @@
 ghost use Rattle.rich_meaning.specs.Laws.{TypedOrRefused, NeverBoth, OneDerivation, OneViolation, LoneViolations};
 
-/// A law: a module has a derivation or exactly one first violation, and never both.
+/// A law on every module: it has a derivation or exactly one first violation, and never both; and its
+/// derivations have the same notes. A module that is not built so far has the violation `NotYetBuilt`.
 pub fn typed_or_refused()
     ensures either { TypedOrRefused }
     ensures never_both { NeverBoth }

@@ -1,10 +1,9 @@
--- What holds of bodies holds of modules of one function.
-use Rattle.std.proofs.Common.{inl, inr}
-use Rattle.rich_meaning.proofs.LoneModules.{one_derivation, module_never_both, one_violation, lone_module}
+-- What holds of bodies holds of modules of one function, and any other module is not built yet.
+use Rattle.rich_meaning.proofs.LoneModules.{typed_or_refused, one_derivation, module_never_both, one_violation}
 use Rattle.rich_meaning.proofs.laws.typed_or_refused.Goals as goal
 
 pub returns-clause-either : goal.returns-clause-either
-returns-clause-either c = λ m lone. elim (lone_module m lone) [ inl t ↦ inl t | inr v ↦ inr (v.0, v.1) ]
+returns-clause-either c = typed_or_refused
 
 pub returns-clause-never_both : goal.returns-clause-never_both
 returns-clause-never_both c = module_never_both
