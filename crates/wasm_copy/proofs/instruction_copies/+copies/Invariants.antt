@@ -1,0 +1,13 @@
+-- Measures by the count of instructions; the loop has copied the list as far as it has come.
+use Rattle.std.proofs.Common.{◌≡◌, ◌+◌, ◌*◌, take, sum_by}
+use Rattle.wasm_ast.proofs.Counts.{instruction_count}
+use Rattle.wasm_copy.proofs.instruction_copies.+copies.Given as goal
+
+abbrev pub decreases-copy_instruction : goal.decreases-copy_instruction
+decreases-copy_instruction l = 2 * instruction_count l.instruction.now
+
+abbrev pub decreases-copy_instructions : goal.decreases-copy_instructions
+decreases-copy_instructions l = 2 * sum_by instruction_count l.instructions.now + 1
+
+abbrev pub invariant-copy_instructions-loop-instruction : goal.invariant-copy_instructions-loop-instruction
+invariant-copy_instructions-loop-instruction l = l.copied ≡ take l.instruction-index l.instructions
