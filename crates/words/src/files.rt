@@ -1,0 +1,64 @@
+// The names of files: which are plain words, and which are those of sources.
+ghost use Rattle.std.specs.Prelude.{◌≡◌, ◌==◌, ◌<◌, ◌+◌, ◌^◌, length, position, IfSome};
+ghost use Rattle.std.specs.List.{list_all};
+ghost use Rattle.std.specs.Option.{option_copied};
+ghost use Rattle.words.specs.Files.{is_plain_name, is_source_file, is_module_name, after_last_slash, module_name_of};
+ghost use Rattle.rw_types.specs.Names.{is_name_byte};
+
+/// Whether a word is a name: it is not empty and does not begin with a dash.
+pub fn is_plain(word: &str) -> bool
+    ensures { result ≡ is_plain_name word.now }
+{
+    match word.as_bytes() {
+        [] => false,
+        [first, ..] => *first != b'-',
+    }
+}
+
+/// Whether a file's name is that of a source: it does not begin with a dash, and its last part is a module's
+/// name and `.rich`.
+pub fn is_source(file: &str) -> bool
+    ensures { result ≡ is_source_file file.now }
+{
+    is_plain(file) && module_name(file).is_some_and(is_module)
+}
+
+fn is_module(name: &[u8]) -> bool
+    ensures { result ≡ is_module_name name.now }
+{
+    !name.is_empty() && name.len() <= 64 && has_name_bytes(name)
+}
+
+fn has_name_bytes(name: &[u8]) -> bool
+    ensures { result ≡ list_all is_name_byte name.now }
+{
+    name.iter().all(|b| b.is_ascii_lowercase() || b.is_ascii_digit() || *b == b'_')
+}
+
+/// The name of a file's module: the last part of the file's name, without `.rich`.
+pub fn module_name(file: &str) -> Option<&[u8]>
+    ensures { option_copied result ≡ module_name_of file.now }
+{
+    last_part(file.as_bytes()).strip_suffix(b".rich")
+}
+
+// What stands after the last slash.
+fn last_part(file: &[u8]) -> &[u8]
+    ensures { result.now ≡ after_last_slash file.now }
+{
+    let mut part = file;
+    loop {
+        match first_slash(part) {
+            Some(at) => part = &part[at + 1..],
+            None => return part,
+        }
+    }
+}
+
+fn first_slash(part: &[u8]) -> Option<usize>
+    ensures place { result ≡ position (λ b. b == 47) part.now }
+    ensures within { IfSome result (λ at. at < length part.now) }
+    ensures small { IfSome result (λ at. at + 1 < 2 ^ 64) }
+{
+    part.iter().position(|b| *b == b'/')
+}
