@@ -80,3 +80,7 @@ pub record SpellsCommand (words : List (List ℕ)) (command : Command) : Type 0 
 -- words spell at most one command
 abbrev pub OneCommand : Type 0
 OneCommand = (words : List (List ℕ)) (a b : Command) → SpellsCommand words a → SpellsCommand words b → a ≡ b
+
+-- words that are not of the plain form
+abbrev pub SpellNothing : List (List ℕ) → Type 0
+SpellNothing words = (command : Command) → SpellsCommand words command → ⊥
