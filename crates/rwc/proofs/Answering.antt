@@ -16,9 +16,11 @@ use Rattle.rwc.specs.Acts.{Act, create, append, put, Seen, after_act, after_acts
 use Rattle.rwc.specs.Answers.{text_of, PutsText, HasStatus, IsUnloadable, IsRefused}
 use Rattle.rwc.specs.Compiled.{Refused, refused, typed, TextLeads, not_read, spelled}
 use Rattle.rwc.specs.Endings.{Ends, whole, unwritten, no_memory, no_memory_within, Keeps, follows, unread, unbegun}
-use Rattle.rwc.specs.Reports.{Job, max_file_length, ContentLeads, BuildReports, CommandReports}
+use Rattle.rwc.specs.Reports.{Job, max_file_length, ContentLeads, BuildReports, CommandReports, Reports}
 use Rattle.rwc.specs.Stops.{IsRefusal}
-use Rattle.rwc.specs.Words.{Command, build, command_of}
+use Rattle.lowering_table.specs.declared.Pages.{Pages}
+use Rattle.words.specs.Words.{Command, build, SpellsCommand}
+use Rattle.rwc.proofs.OneReport.{reports_found}
 use Rattle.rwc.proofs.Building.{content_status, no_refusal, load_status, status_of_err, same_bytes}
 
 text_of-append : (xs ys : List Act) → text_of (xs ++ ys) ≡ text_of xs ++ text_of ys
@@ -120,15 +122,21 @@ keeps_text Jobs one job right not_four before after status result line (unread f
 keeps_text Jobs one job right not_four before after status result line (unbegun same eight says) told =
     nothing_put _ _ _ result (ap (λ (s : Seen). s.out) same) (elim told [ inl e ↦ inr (e ∙ eight) | inr e ↦ inr e ])
 
+refusal_not_four : (status : ℕ) → IsRefusal status → status ≡ 4 → ⊥
+refusal_not_four status (inl one) e = omega arith
+refusal_not_four status (inr three) e = omega arith
+
+build_not_four : (pages : Pages) (name file : List ℕ) (files : List NamedFile) (job : Job) → BuildReports pages name file files job → job.status ≡ 4 → ⊥
+build_not_four pages name file files job (Ok binary, leads, is) four = let e : job.status ≡ 0 = ap (λ (j : Job). j.status) is in omega arith
+build_not_four pages name file files job (Err r, leads, is) four = refusal_not_four r.status (content_status pages file (content_of files file) r leads) (sym (ap (λ (j : Job). j.status) is) ∙ four)
+
+command_not_four : (command : Option Command) (files : List NamedFile) (job : Job) → CommandReports command files job → job.status ≡ 4 → ⊥
+command_not_four None files job is four = let e : job.status ≡ 2 = ap (λ (j : Job). j.status) is in omega arith
+command_not_four (Some (build lin unr name file)) files job is four = build_not_four (record { lin = lin; unr = unr }) name file files job is four
+
 -- no job is reported with status 4
-pub never_four : (command : Option Command) (files : List NamedFile) (job : Job) → CommandReports command files job → job.status ≡ 4 → ⊥
-never_four None files job is four = let e : job.status ≡ 2 = ap (λ (j : Job). j.status) is in omega arith
-never_four (Some (build name file)) files job (Ok binary, leads, is) four = let e : job.status ≡ 0 = ap (λ (j : Job). j.status) is in omega arith
-never_four (Some (build name file)) files job (Err r, leads, is) four = refusal_not_four r.status (content_status file (content_of files file) r leads) (sym (ap (λ (j : Job). j.status) is) ∙ four)
-  where
-    refusal_not_four : (status : ℕ) → IsRefusal status → status ≡ 4 → ⊥
-    refusal_not_four status (inl one) e = omega arith
-    refusal_not_four status (inr three) e = omega arith
+pub never_four : (words : List (List ℕ)) (files : List NamedFile) (job : Job) → Reports words files job → job.status ≡ 4 → ⊥
+never_four words files job (command, found, reports) four = command_not_four command files job reports four
 
 ends_complete : (job : Job) (done : List Act) (status result : ℕ) (line : List ℕ) → Ends job done status line → (result ≡ status) ⊎ (result ≡ 8) → (result ≡ 5 → ⊥) → (result ≡ job.status) ⊎ (result ≡ 8)
 ends_complete job done status result line ends (inr eight) no_write = inr eight
@@ -161,58 +169,61 @@ job_of Jobs before after status result line (unread file same four says) told no
 job_of Jobs before after status result line (unbegun same eight says) told not_four not_five not_eight = absurd (elim told [ inl e ↦ not_eight (e ∙ eight) | inr e ↦ not_eight e ])
 
 -- a status other than 4, 5 and 8 is that of a job which words and files report
-pub reported : (words : List (List ℕ)) (files : List NamedFile) (before after : Seen) (status result : ℕ) (line : List ℕ) → Keeps (λ job. CommandReports (command_of words) files job) before after status line →
+pub reported : (words : List (List ℕ)) (files : List NamedFile) (before after : Seen) (status result : ℕ) (line : List ℕ) → Keeps (Reports words files) before after status line →
     (result ≡ status) ⊎ (result ≡ 8) → result ≢ 4 → result ≢ 5 → result ≢ 8 → HasStatus words files result
 reported words files before after status result line keeps told not_four not_five not_eight =
-    let h = job_of (λ job. CommandReports (command_of words) files job) before after status result line keeps told not_four not_five not_eight in
+    let h = job_of (Reports words files) before after status result line keeps told not_four not_five not_eight in
     record { job = h.job; reported = h.right; is = h.is }
 
-text_refused : (file bytes : List ℕ) (r : Refused) → TextLeads file bytes (Err r) → r.status ≡ 1 → IsRefused (Some bytes)
-text_refused file bytes r (not_read none b) one = record { bytes = bytes; is = refl; why = inl none }
-text_refused file bytes r (spelled m spells (refused v first found expected b)) one = record { bytes = bytes; is = refl; why = inr (m, spells, v, first) }
-text_refused file bytes r (spelled m spells (typed notes t leads)) one = absurd (no_refusal _ r leads.leads)
+text_refused : (pages : Pages) (file bytes : List ℕ) (r : Refused) → TextLeads pages file bytes (Err r) → r.status ≡ 1 → IsRefused (Some bytes)
+text_refused pages file bytes r (not_read none b) one = record { bytes = bytes; is = refl; why = inl none }
+text_refused pages file bytes r (spelled m spells (refused v first found expected b)) one = record { bytes = bytes; is = refl; why = inr (m, spells, v, first) }
+text_refused pages file bytes r (spelled m spells (typed notes t leads)) one = absurd (no_refusal _ r leads.leads)
 
-content_refused : (file : List ℕ) (content : Option (List ℕ)) (r : Refused) → ContentLeads file content (Err r) → r.status ≡ 1 → IsRefused content
-content_refused file None r (Ok bytes, load, leads) one = absurd cc
-content_refused file (Some content) r (Ok bytes, inl long, leads) one = let e = long.1 in absurd cc
-content_refused file (Some content) r (Ok bytes, inr short, leads) one =
-    subst (λ (b : List ℕ). IsRefused (Some b)) (same_bytes bytes content short.1) (text_refused file bytes r leads one)
-content_refused file content r (Err q, load, leads) one = absurd (omega (arith, one, status_of_err r q leads, load_status file content q load))
+content_refused : (pages : Pages) (file : List ℕ) (content : Option (List ℕ)) (r : Refused) → ContentLeads pages file content (Err r) → r.status ≡ 1 → IsRefused content
+content_refused pages file None r (Ok bytes, load, leads) one = absurd cc
+content_refused pages file (Some content) r (Ok bytes, inl long, leads) one = let e = long.1 in absurd cc
+content_refused pages file (Some content) r (Ok bytes, inr short, leads) one =
+    subst (λ (b : List ℕ). IsRefused (Some b)) (same_bytes bytes content short.1) (text_refused pages file bytes r leads one)
+content_refused pages file content r (Err q, load, leads) one = absurd (omega (arith, one, status_of_err r q leads, load_status file content q load))
 
-text_one : (file bytes : List ℕ) (r : Refused) → TextLeads file bytes (Err r) → r.status ≡ 1
-text_one file bytes r (not_read none b) = status_of_err _ _ b
-text_one file bytes r (spelled m spells (refused v first found expected b)) = status_of_err _ _ b
-text_one file bytes r (spelled m spells (typed notes t leads)) = absurd (no_refusal _ r leads.leads)
+text_one : (pages : Pages) (file bytes : List ℕ) (r : Refused) → TextLeads pages file bytes (Err r) → r.status ≡ 1
+text_one pages file bytes r (not_read none b) = status_of_err _ _ b
+text_one pages file bytes r (spelled m spells (refused v first found expected b)) = status_of_err _ _ b
+text_one pages file bytes r (spelled m spells (typed notes t leads)) = absurd (no_refusal _ r leads.leads)
 
-content_unloadable : (file : List ℕ) (content : Option (List ℕ)) (r : Refused) → ContentLeads file content (Err r) → r.status ≡ 3 → IsUnloadable content
-content_unloadable file None r leads three = tt
-content_unloadable file (Some content) r (Ok bytes, load, leads) three = absurd (omega (arith, three, text_one file bytes r leads))
-content_unloadable file (Some content) r (Err q, inl long, leads) three = long.0
-content_unloadable file (Some content) r (Err q, inr short, leads) three = let e = short.1 in absurd cc
+content_unloadable : (pages : Pages) (file : List ℕ) (content : Option (List ℕ)) (r : Refused) → ContentLeads pages file content (Err r) → r.status ≡ 3 → IsUnloadable content
+content_unloadable pages file None r leads three = tt
+content_unloadable pages file (Some content) r (Ok bytes, load, leads) three = absurd (omega (arith, three, text_one pages file bytes r leads))
+content_unloadable pages file (Some content) r (Err q, inl long, leads) three = long.0
+content_unloadable pages file (Some content) r (Err q, inr short, leads) three = let e = short.1 in absurd cc
 
-build_refused : (name file : List ℕ) (files : List NamedFile) (job : Job) → BuildReports name file files job → job.status ≡ 1 → IsRefused (content_of files file)
-build_refused name file files job (Ok binary, leads, is) one = let e : job.status ≡ 0 = ap (λ (j : Job). j.status) is in absurd (omega arith)
-build_refused name file files job (Err r, leads, is) one = content_refused file (content_of files file) r leads (sym (ap (λ (j : Job). j.status) is) ∙ one)
+build_refused : (pages : Pages) (name file : List ℕ) (files : List NamedFile) (job : Job) → BuildReports pages name file files job → job.status ≡ 1 → IsRefused (content_of files file)
+build_refused pages name file files job (Ok binary, leads, is) one = let e : job.status ≡ 0 = ap (λ (j : Job). j.status) is in absurd (omega arith)
+build_refused pages name file files job (Err r, leads, is) one = content_refused pages file (content_of files file) r leads (sym (ap (λ (j : Job). j.status) is) ∙ one)
 
-build_unloadable : (name file : List ℕ) (files : List NamedFile) (job : Job) → BuildReports name file files job → job.status ≡ 3 → IsUnloadable (content_of files file)
-build_unloadable name file files job (Ok binary, leads, is) three = let e : job.status ≡ 0 = ap (λ (j : Job). j.status) is in absurd (omega arith)
-build_unloadable name file files job (Err r, leads, is) three = content_unloadable file (content_of files file) r leads (sym (ap (λ (j : Job). j.status) is) ∙ three)
+build_unloadable : (pages : Pages) (name file : List ℕ) (files : List NamedFile) (job : Job) → BuildReports pages name file files job → job.status ≡ 3 → IsUnloadable (content_of files file)
+build_unloadable pages name file files job (Ok binary, leads, is) three = let e : job.status ≡ 0 = ap (λ (j : Job). j.status) is in absurd (omega arith)
+build_unloadable pages name file files job (Err r, leads, is) three = content_unloadable pages file (content_of files file) r leads (sym (ap (λ (j : Job). j.status) is) ∙ three)
 
-pub why_refused : (name file : List ℕ) (words : List (List ℕ)) (files : List NamedFile) (status : ℕ) → command_of words ≡ Some (build name file) → HasStatus words files status → status ≡ 1 → IsRefused (content_of files file)
-why_refused name file words files status spells h one =
-    build_refused name file files h.job (subst (λ (command : Option Command). CommandReports command files h.job) spells h.reported) (sym h.is ∙ one)
+pub why_refused : (lin unr : ℕ) (name file : List ℕ) (words : List (List ℕ)) (files : List NamedFile) (status : ℕ) → SpellsCommand words (build lin unr name file) → HasStatus words files status → status ≡ 1 → IsRefused (content_of files file)
+why_refused lin unr name file words files status spells h one =
+    build_refused (record { lin = lin; unr = unr }) name file files h.job (reports_found words (Some (build lin unr name file)) files h.job spells h.reported) (sym h.is ∙ one)
 
-pub why_unloadable : (name file : List ℕ) (words : List (List ℕ)) (files : List NamedFile) (status : ℕ) → command_of words ≡ Some (build name file) → HasStatus words files status → status ≡ 3 → IsUnloadable (content_of files file)
-why_unloadable name file words files status spells h three =
-    build_unloadable name file files h.job (subst (λ (command : Option Command). CommandReports command files h.job) spells h.reported) (sym h.is ∙ three)
+pub why_unloadable : (lin unr : ℕ) (name file : List ℕ) (words : List (List ℕ)) (files : List NamedFile) (status : ℕ) → SpellsCommand words (build lin unr name file) → HasStatus words files status → status ≡ 3 → IsUnloadable (content_of files file)
+why_unloadable lin unr name file words files status spells h three =
+    build_unloadable (record { lin = lin; unr = unr }) name file files h.job (reports_found words (Some (build lin unr name file)) files h.job spells h.reported) (sym h.is ∙ three)
 
-refusal_acts : (name file : List ℕ) (files : List NamedFile) (job : Job) → BuildReports name file files job → job.status ≢ 0 → job.acts ≡ []
-refusal_acts name file files job (Ok binary, leads, is) not_zero = absurd (not_zero (ap (λ (j : Job). j.status) is))
-refusal_acts name file files job (Err r, leads, is) not_zero = ap (λ (j : Job). j.acts) is
+refusal_acts : (pages : Pages) (name file : List ℕ) (files : List NamedFile) (job : Job) → BuildReports pages name file files job → job.status ≢ 0 → job.acts ≡ []
+refusal_acts pages name file files job (Ok binary, leads, is) not_zero = absurd (not_zero (ap (λ (j : Job). j.status) is))
+refusal_acts pages name file files job (Err r, leads, is) not_zero = ap (λ (j : Job). j.acts) is
 
 no_acts : (command : Option Command) (files : List NamedFile) (job : Job) → CommandReports command files job → job.status ≢ 0 → job.acts ≡ []
 no_acts None files job is not_zero = ap (λ (j : Job). j.acts) is
-no_acts (Some (build name file)) files job is not_zero = refusal_acts name file files job is not_zero
+no_acts (Some (build lin unr name file)) files job is not_zero = refusal_acts (record { lin = lin; unr = unr }) name file files job is not_zero
+
+reported_acts : (words : List (List ℕ)) (files : List NamedFile) (job : Job) → Reports words files job → job.status ≢ 0 → job.acts ≡ []
+reported_acts words files job (command, found, reports) not_zero = no_acts command files job reports not_zero
 
 ends_untouched : (job : Job) (done : List Act) (status result : ℕ) (line : List ℕ) → Ends job done status line → (job.status ≢ 0 → job.acts ≡ []) → result ≡ status →
     result ≢ 0 → result ≢ 5 → result ≢ 8 → done ≡ []
@@ -222,12 +233,12 @@ ends_untouched job done status result line (no_memory rest split eight says) non
 ends_untouched job done status result line (no_memory_within left off eight says) none e not_zero not_five not_eight = absurd (not_eight (e ∙ eight))
 
 -- at a status other than 0, 5 and 8 nothing was created and nothing was put
-pub untouched : (words : List (List ℕ)) (files : List NamedFile) (before after : Seen) (status result : ℕ) (line : List ℕ) → Keeps (λ job. CommandReports (command_of words) files job) before after status line →
+pub untouched : (words : List (List ℕ)) (files : List NamedFile) (before after : Seen) (status result : ℕ) (line : List ℕ) → Keeps (Reports words files) before after status line →
     (result ≡ status) ⊎ (result ≡ 8) → result ≢ 0 → result ≢ 5 → result ≢ 8 → after ≡ before
 untouched words files before after status result line keeps (inr eight) not_zero not_five not_eight = absurd (not_eight eight)
 untouched words files before after status result line (follows job is how) (inl e) not_zero not_five not_eight =
     how.seen ∙ ap (λ (acts : List Act). after_acts acts before)
-    (ends_untouched job how.done status result line how.ends (no_acts (command_of words) files job is) e not_zero not_five not_eight)
+    (ends_untouched job how.done status result line how.ends (reported_acts words files job is) e not_zero not_five not_eight)
 untouched words files before after status result line (unread file same four says) (inl e) not_zero not_five not_eight = same
 untouched words files before after status result line (unbegun same eight says) (inl e) not_zero not_five not_eight = same
 
@@ -251,23 +262,23 @@ not_refused bytes m notes spells derived r = spelled_not_refused (subst (λ (b :
     spelled_not_refused (inl none) = none m spells
     spelled_not_refused (inr (k, others, v, first)) = module_never_both m notes v derived (subst (λ (n : Module). FirstViolation n v) (one_module bytes k m others spells) first)
 
-build_zero : (name file bytes : List ℕ) (files : List NamedFile) (m : Module) (notes : List (List Note)) (job : Job) → BuildReports name file files job → content_of files file ≡ Some bytes → length bytes ≤ max_file_length →
+build_zero : (pages : Pages) (name file bytes : List ℕ) (files : List NamedFile) (m : Module) (notes : List (List Note)) (job : Job) → BuildReports pages name file files job → content_of files file ≡ Some bytes → length bytes ≤ max_file_length →
     Spells bytes m → IsTyped m notes → job.status ≡ 0
-build_zero name file bytes files m notes job (Ok binary, leads, is) there short spells derived = ap (λ (j : Job). j.status) is
-build_zero name file bytes files m notes job (Err r, leads, is) there short spells derived = absurd (elim (content_status file (content_of files file) r leads) [
-  | inl one ↦ not_refused bytes m notes spells derived (subst IsRefused there (content_refused file (content_of files file) r leads one))
-  | inr three ↦ too_long (subst IsUnloadable there (content_unloadable file (content_of files file) r leads three))
+build_zero pages name file bytes files m notes job (Ok binary, leads, is) there short spells derived = ap (λ (j : Job). j.status) is
+build_zero pages name file bytes files m notes job (Err r, leads, is) there short spells derived = absurd (elim (content_status pages file (content_of files file) r leads) [
+  | inl one ↦ not_refused bytes m notes spells derived (subst IsRefused there (content_refused pages file (content_of files file) r leads one))
+  | inr three ↦ too_long (subst IsUnloadable there (content_unloadable pages file (content_of files file) r leads three))
 ])
   where
     too_long : max_file_length < length bytes → ⊥
     too_long long = omega (arith, long, short)
 
 -- a told file whose text spells a typed module is built, unless something failed or memory was wanting
-pub accepted : (name file bytes : List ℕ) (words : List (List ℕ)) (files : List NamedFile) (m : Module) (notes : List (List Note)) (before after : Seen) (status result : ℕ) (line : List ℕ) → command_of words ≡ Some (build name file) →
-    Keeps (λ job. CommandReports (command_of words) files job) before after status line → (result ≡ status) ⊎ (result ≡ 8) → content_of files file ≡ Some bytes → length bytes ≤ max_file_length → Spells bytes m → IsTyped m notes →
+pub accepted : (lin unr : ℕ) (name file bytes : List ℕ) (words : List (List ℕ)) (files : List NamedFile) (m : Module) (notes : List (List Note)) (before after : Seen) (status result : ℕ) (line : List ℕ) → SpellsCommand words (build lin unr name file) →
+    Keeps (Reports words files) before after status line → (result ≡ status) ⊎ (result ≡ 8) → content_of files file ≡ Some bytes → length bytes ≤ max_file_length → Spells bytes m → IsTyped m notes →
     result ≢ 4 → result ≢ 5 → (result ≡ 0) ⊎ (result ≡ 8)
-accepted name file bytes words files m notes before after status result line plain keeps told there short spells derived not_four not_five =
-    elim (job_or_memory (λ job. CommandReports (command_of words) files job) before after status result line keeps told not_four not_five) [
-      | inl h ↦ inl (h.is ∙ build_zero name file bytes files m notes h.job (subst (λ (command : Option Command). CommandReports command files h.job) plain h.right) there short spells derived)
+accepted lin unr name file bytes words files m notes before after status result line plain keeps told there short spells derived not_four not_five =
+    elim (job_or_memory (Reports words files) before after status result line keeps told not_four not_five) [
+      | inl h ↦ inl (h.is ∙ build_zero (record { lin = lin; unr = unr }) name file bytes files m notes h.job (reports_found words (Some (build lin unr name file)) files h.job plain h.right) there short spells derived)
       | inr eight ↦ inr eight
     ]

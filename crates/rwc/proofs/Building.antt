@@ -22,12 +22,13 @@ use Rattle.wasm_meaning.specs.Starts.{wasm}
 use Rattle.lowering_laws.proofs.Behaves.{lowered_behaves, lowered_ends}
 use Rattle.rw_program.specs.Linking.{program_of}
 use Rattle.rw_program.specs.Programs.{Program}
+use Rattle.lowering_table.specs.declared.Pages.{Pages}
 use Rattle.lowering_table.specs.Modules.{low_module}
 use Rattle.rw_io.specs.Files.{NamedFile, content_of}
 use Rattle.rw_io.specs.States.{ShelfState, SinkState}
 use Rattle.rwc.specs.Acts.{Act, Seen, after_acts, seen_of}
 use Rattle.rwc.specs.Built.{Built}
-use Rattle.rwc.specs.Compiled.{Refused, default_pages, BinaryLeads, ModuleLeads, refused, typed, TextLeads, not_read, spelled}
+use Rattle.rwc.specs.Compiled.{Refused, BinaryLeads, ModuleLeads, refused, typed, TextLeads, not_read, spelled}
 use Rattle.rwc.specs.Endings.{Ends, whole, unwritten, no_memory, no_memory_within, Follows, Keeps, follows, unread, unbegun}
 use Rattle.rwc.specs.Lines.{wrote_line}
 use Rattle.rwc.specs.Stops.{IsRefusal}
@@ -40,22 +41,22 @@ status_of_err a b e = let same : a ≡ b = cc in ap (λ (r : Refused). r.status)
 pub no_refusal : (m : WModule) (r : Refused) → BinaryLeads m (Err r) → ⊥
 no_refusal m r leads = let e = leads.is in cc
 
-module_status : (file : List ℕ) (m : Module) (r : Refused) → ModuleLeads file m (Err r) → IsRefusal r.status
-module_status file m r (refused v first found expected b) = inl (status_of_err _ _ b)
-module_status file m r (typed notes t leads) = absurd (no_refusal (low_module leads.program default_pages) r leads.leads)
+module_status : (pages : Pages) (file : List ℕ) (m : Module) (r : Refused) → ModuleLeads pages file m (Err r) → IsRefusal r.status
+module_status pages file m r (refused v first found expected b) = inl (status_of_err _ _ b)
+module_status pages file m r (typed notes t leads) = absurd (no_refusal (low_module leads.program pages) r leads.leads)
 
-text_status : (file bytes : List ℕ) (r : Refused) → TextLeads file bytes (Err r) → IsRefusal r.status
-text_status file bytes r (not_read none b) = inl (status_of_err _ _ b)
-text_status file bytes r (spelled m spells leads) = module_status file m r leads
+text_status : (pages : Pages) (file bytes : List ℕ) (r : Refused) → TextLeads pages file bytes (Err r) → IsRefusal r.status
+text_status pages file bytes r (not_read none b) = inl (status_of_err _ _ b)
+text_status pages file bytes r (spelled m spells leads) = module_status pages file m r leads
 
 pub load_status : (file : List ℕ) (content : Option (List ℕ)) (r : Refused) → LoadLeads file content (Err r) → r.status ≡ 3
 load_status file None r e = status_of_err _ _ e
 load_status file (Some bytes) r (inl long) = status_of_err _ _ long.1
 load_status file (Some bytes) r (inr short) = let e = short.1 in absurd cc
 
-pub content_status : (file : List ℕ) (content : Option (List ℕ)) (r : Refused) → ContentLeads file content (Err r) → IsRefusal r.status
-content_status file content r (Ok bytes, load, leads) = text_status file bytes r leads
-content_status file content r (Err q, load, leads) = inr (status_of_err _ _ leads ∙ load_status file content q load)
+pub content_status : (pages : Pages) (file : List ℕ) (content : Option (List ℕ)) (r : Refused) → ContentLeads pages file content (Err r) → IsRefusal r.status
+content_status pages file content r (Ok bytes, load, leads) = text_status pages file bytes r leads
+content_status pages file content r (Err q, load, leads) = inr (status_of_err _ _ leads ∙ load_status file content q load)
 
 not_zero : (status : ℕ) → IsRefusal status → status ≢ 0
 not_zero status (inl one) zero = absurd (omega arith)
@@ -84,24 +85,24 @@ program_lone source notes q t linked =
     record { body = body; notes = one.own; is = same_program (lone_program body one.own) q (sym whole ∙ linked); plain = t.lone.plain; short = t.lone.short; derived = one.derived }
 
 -- what an accepted text leads to
-record Accepted (bytes binary : List ℕ) : Type 0 where
+record Accepted (pages : Pages) (bytes binary : List ℕ) : Type 0 where
   source : Module
   spells : Spells bytes source
   notes : List (List Note)
   derived : IsTyped source notes
   program : Program
   linked : program_of (record { source = source; notes = notes }) ≡ Some program
-  means : SpellsModule (module_bytes (low_module program default_pages)) (low_module program default_pages)
-  behaves : Alike (λ n. rich program n) (λ m. wasm (low_module program default_pages) m)
-  ends : BothEnd (λ n. rich program n) (λ m. wasm (low_module program default_pages) m)
-  is : binary ≡ module_bytes (low_module program default_pages)
+  means : SpellsModule (module_bytes (low_module program pages)) (low_module program pages)
+  behaves : Alike (λ n. rich program n) (λ m. wasm (low_module program pages) m)
+  ends : BothEnd (λ n. rich program n) (λ m. wasm (low_module program pages) m)
+  is : binary ≡ module_bytes (low_module program pages)
 
 pub same_bytes : (a b : List ℕ) → (let r : Result (List ℕ) Refused = Ok a in r) ≡ Ok b → a ≡ b
 same_bytes a b e = cc
 
-module_accepted : (file bytes binary : List ℕ) (m : Module) → Spells bytes m → ModuleLeads file m (Ok binary) → Accepted bytes binary
-module_accepted file bytes binary m spells (refused v first found expected b) = absurd cc
-module_accepted file bytes binary m spells (typed notes t leads) = record {
+module_accepted : (pages : Pages) (file bytes binary : List ℕ) (m : Module) → Spells bytes m → ModuleLeads pages file m (Ok binary) → Accepted pages bytes binary
+module_accepted pages file bytes binary m spells (refused v first found expected b) = absurd cc
+module_accepted pages file bytes binary m spells (typed notes t leads) = record {
   source = m;
   spells = spells;
   notes = notes;
@@ -109,26 +110,26 @@ module_accepted file bytes binary m spells (typed notes t leads) = record {
   program = leads.program;
   linked = leads.linked;
   means = leads.leads.spells;
-  behaves = lowered_behaves leads.program default_pages (program_lone m notes leads.program t leads.linked);
-  ends = lowered_ends leads.program default_pages (program_lone m notes leads.program t leads.linked);
+  behaves = lowered_behaves leads.program pages (program_lone m notes leads.program t leads.linked);
+  ends = lowered_ends leads.program pages (program_lone m notes leads.program t leads.linked);
   is = same_bytes _ _ leads.leads.is;
 }
 
-text_accepted : (file bytes binary : List ℕ) → TextLeads file bytes (Ok binary) → Accepted bytes binary
-text_accepted file bytes binary (not_read none b) = absurd cc
-text_accepted file bytes binary (spelled m spells leads) = module_accepted file bytes binary m spells leads
+text_accepted : (pages : Pages) (file bytes binary : List ℕ) → TextLeads pages file bytes (Ok binary) → Accepted pages bytes binary
+text_accepted pages file bytes binary (not_read none b) = absurd cc
+text_accepted pages file bytes binary (spelled m spells leads) = module_accepted pages file bytes binary m spells leads
 
 -- a file whose text was accepted
-record AcceptedFile (content : Option (List ℕ)) (binary : List ℕ) : Type 0 where
+record AcceptedFile (pages : Pages) (content : Option (List ℕ)) (binary : List ℕ) : Type 0 where
   bytes : List ℕ
   is : content ≡ Some bytes
-  accepted : Accepted bytes binary
+  accepted : Accepted pages bytes binary
 
-content_accepted : (file : List ℕ) (content : Option (List ℕ)) (binary : List ℕ) → ContentLeads file content (Ok binary) → AcceptedFile content binary
-content_accepted file None binary (Ok bytes, load, leads) = absurd cc
-content_accepted file (Some content) binary (Ok bytes, inl long, leads) = let e = long.1 in absurd cc
-content_accepted file (Some content) binary (Ok bytes, inr short, leads) = record { bytes = bytes; is = ap (λ (b : List ℕ). Some b) (sym (same_bytes _ _ short.1)); accepted = text_accepted file bytes binary leads }
-content_accepted file content binary (Err q, load, leads) = absurd cc
+content_accepted : (pages : Pages) (file : List ℕ) (content : Option (List ℕ)) (binary : List ℕ) → ContentLeads pages file content (Ok binary) → AcceptedFile pages content binary
+content_accepted pages file None binary (Ok bytes, load, leads) = absurd cc
+content_accepted pages file (Some content) binary (Ok bytes, inl long, leads) = let e = long.1 in absurd cc
+content_accepted pages file (Some content) binary (Ok bytes, inr short, leads) = record { bytes = bytes; is = ap (λ (b : List ℕ). Some b) (sym (same_bytes _ _ short.1)); accepted = text_accepted pages file bytes binary leads }
+content_accepted pages file content binary (Err q, load, leads) = absurd cc
 
 -- what stands after the acts of a build
 created_after : (name binary line : List ℕ) (created : NamedFile) (before after : Seen) → after ≡ after_acts (build_job name (Ok binary)).acts before → before.holding.created ≡ Some created →
@@ -141,12 +142,12 @@ out_after : (name binary said : List ℕ) (before after : Seen) → after ≡ af
     after.out ≡ Some (said ++ wrote_line name (length binary))
 out_after name binary said before after e c = ap (λ (s : Seen). s.out) e ∙ ap (λ (o : Option (List ℕ)). append_known o (wrote_line name (length binary))) c
 
-finished : (files : List NamedFile) (name file said : List ℕ) (created : NamedFile) (shelf shelf' : ShelfState) (out out' : SinkState) (binary : Result (List ℕ) Refused) (done : List Act) →
-    ContentLeads file (content_of files file) binary → 0 ≡ (build_job name binary).status → done ≡ (build_job name binary).acts → seen_of shelf' out' ≡ after_acts done (seen_of shelf out) →
-    shelf.holding.created ≡ Some created → out.bytes ≡ Some said → Built files name file said shelf' out'
-finished files name file said created shelf shelf' out out' (Err r) done leads zero all seen told heard = absurd (not_zero r.status (content_status file (content_of files file) r leads) (sym zero))
-finished files name file said created shelf shelf' out out' (Ok binary) done leads zero all seen told heard =
-    let a = content_accepted file (content_of files file) binary leads in
+finished : (pages : Pages) (files : List NamedFile) (name file said : List ℕ) (created : NamedFile) (shelf shelf' : ShelfState) (out out' : SinkState) (binary : Result (List ℕ) Refused) (done : List Act) →
+    ContentLeads pages file (content_of files file) binary → 0 ≡ (build_job name binary).status → done ≡ (build_job name binary).acts → seen_of shelf' out' ≡ after_acts done (seen_of shelf out) →
+    shelf.holding.created ≡ Some created → out.bytes ≡ Some said → Built files pages name file said shelf' out'
+finished pages files name file said created shelf shelf' out out' (Err r) done leads zero all seen told heard = absurd (not_zero r.status (content_status pages file (content_of files file) r leads) (sym zero))
+finished pages files name file said created shelf shelf' out out' (Ok binary) done leads zero all seen told heard =
+    let a = content_accepted pages file (content_of files file) binary leads in
     let s = seen ∙ ap (λ (acts : List Act). after_acts acts (seen_of shelf out)) all in
     record {
       bytes = a.bytes;
@@ -164,21 +165,25 @@ finished files name file said created shelf shelf' out out' (Ok binary) done lea
       told = out_after name binary said (seen_of shelf out) (seen_of shelf' out') s heard ∙ ap (λ (b : List ℕ). Some (said ++ wrote_line name (length b))) a.accepted.is;
     }
 
-ended : (files : List NamedFile) (name file said : List ℕ) (created : NamedFile) (shelf shelf' : ShelfState) (out out' : SinkState) (job : Job) (status : ℕ) (line : List ℕ) (how : Follows job (seen_of shelf out) (seen_of shelf' out') status line) →
-    BuildReports name file files job → Ends job how.done status line → status ≡ 0 → shelf.holding.created ≡ Some created → out.bytes ≡ Some said → Built files name file said shelf' out'
-ended files name file said created shelf shelf' out out' job status line how is (whole all same says) zero told heard =
-    finished files name file said created shelf shelf' out out' is.0 how.done is.1 (sym zero ∙ same ∙ ap (λ (j : Job). j.status) is.2) (all ∙ ap (λ (j : Job). j.acts) is.2) how.seen told heard
-ended files name file said created shelf shelf' out out' job status line how is (unwritten left off five says) zero told heard = absurd (omega arith)
-ended files name file said created shelf shelf' out out' job status line how is (no_memory rest split eight says) zero told heard = absurd (omega arith)
-ended files name file said created shelf shelf' out out' job status line how is (no_memory_within left off eight says) zero told heard = absurd (omega arith)
+ended : (pages : Pages) (files : List NamedFile) (name file said : List ℕ) (created : NamedFile) (shelf shelf' : ShelfState) (out out' : SinkState) (job : Job) (status : ℕ) (line : List ℕ) (how : Follows job (seen_of shelf out) (seen_of shelf' out') status line) →
+    BuildReports pages name file files job → Ends job how.done status line → status ≡ 0 → shelf.holding.created ≡ Some created → out.bytes ≡ Some said → Built files pages name file said shelf' out'
+ended pages files name file said created shelf shelf' out out' job status line how is (whole all same says) zero told heard =
+    finished pages files name file said created shelf shelf' out out' is.0 how.done is.1 (sym zero ∙ same ∙ ap (λ (j : Job). j.status) is.2) (all ∙ ap (λ (j : Job). j.acts) is.2) how.seen told heard
+ended pages files name file said created shelf shelf' out out' job status line how is (unwritten left off five says) zero told heard = absurd (omega arith)
+ended pages files name file said created shelf shelf' out out' job status line how is (no_memory rest split eight says) zero told heard = absurd (omega arith)
+ended pages files name file said created shelf shelf' out out' job status line how is (no_memory_within left off eight says) zero told heard = absurd (omega arith)
 
-pub built : (files : List NamedFile) (name file said : List ℕ) (created : NamedFile) (shelf shelf' : ShelfState) (out out' : SinkState) (status : ℕ) (line : List ℕ) →
-    Keeps (BuildReports name file files) (seen_of shelf out) (seen_of shelf' out') status line → status ≡ 0 → shelf.holding.created ≡ Some created → out.bytes ≡ Some said → Built files name file said shelf' out'
-built files name file said created shelf shelf' out out' status line (follows job is how) zero told heard = ended files name file said created shelf shelf' out out' job status line how is how.ends zero told heard
-built files name file said created shelf shelf' out out' status line (unread f same four says) zero told heard = absurd (omega arith)
-built files name file said created shelf shelf' out out' status line (unbegun same eight says) zero told heard = absurd (omega arith)
+pub built : (pages : Pages) (files : List NamedFile) (name file said : List ℕ) (created : NamedFile) (shelf shelf' : ShelfState) (out out' : SinkState) (status : ℕ) (line : List ℕ) →
+    Keeps (BuildReports pages name file files) (seen_of shelf out) (seen_of shelf' out') status line → status ≡ 0 → shelf.holding.created ≡ Some created → out.bytes ≡ Some said → Built files pages name file said shelf' out'
+built pages files name file said created shelf shelf' out out' status line (follows job is how) zero told heard = ended pages files name file said created shelf shelf' out out' job status line how is how.ends zero told heard
+built pages files name file said created shelf shelf' out out' status line (unread f same four says) zero told heard = absurd (omega arith)
+built pages files name file said created shelf shelf' out out' status line (unbegun same eight says) zero told heard = absurd (omega arith)
 
 -- the status that was told is the one that is answered
 pub told_zero : (result status : ℕ) → (result ≡ status) ⊎ (result ≡ 8) → result ≡ 0 → status ≡ 0
 told_zero result status (inl same) zero = sym same ∙ zero
 told_zero result status (inr eight) zero = absurd (omega arith)
+
+pub told_status : (result status n : ℕ) → (result ≡ status) ⊎ (result ≡ 8) → result ≡ n → n ≢ 8 → status ≡ n
+told_status result status n (inl same) is other = sym same ∙ is
+told_status result status n (inr eight) is other = absurd (other (sym is ∙ eight))

@@ -1,10 +1,11 @@
 -- How each exit of a job keeps to it: what was done is a front of its acts, and the line says how it ended.
-use Rattle.std.proofs.Common.{◌≡◌, inl, ℕ, List, [], ◌∷◌, ◌++◌, refl, ap, sym, ◌∙◌, string_bytes, Err, None, Some, lit≤}
+use Rattle.std.proofs.Common.{◌≡◌, ◌⊎◌, arith, inl, inr, ℕ, List, [], ◌∷◌, ◌++◌, refl, ap, sym, ◌∙◌, string_bytes, Err, None, Some, lit≤}
 use Rattle.std.proofs.lemmas.List.{append-nil}
 use Rattle.std.specs.declared.option.Option.{Option}
 use Rattle.std.specs.Io.KnownBytes.{append_known}
 use Rattle.rw_io.specs.Files.{NamedFile, content_of}
 use Rattle.rw_io.specs.States.{SinkState}
+use Rattle.lowering_table.specs.declared.Pages.{Pages}
 use Rattle.rwc.specs.declared.ending.Stop.{Stop}
 use Rattle.rwc.specs.declared.ending.Stop.TheVariants.{Refused as IsRefused, Unread, Unwritten, Memory}
 use Rattle.rwc.specs.Acts.{Act, Seen, after_act, after_acts, BreaksOff}
@@ -12,7 +13,7 @@ use Rattle.rwc.specs.Endings.{Ends, whole, unwritten, no_memory_within, Follows,
 use Rattle.rwc.specs.Lines.{words_line, read_fault_line, write_fault_line}
 use Rattle.rwc.specs.Outcomes.{Tells}
 use Rattle.rwc.specs.Reports.{Job, refusal_job, ContentLeads, BuildReports, CommandReports}
-use Rattle.rwc.specs.Stops.{IfStop, Breaks, stop_status, stop_line}
+use Rattle.rwc.specs.Stops.{IfStop, IsRefusal as IsRefusalStatus, Breaks, stop_status, stop_line}
 
 after_acts-append : (xs ys : List Act) (seen : Seen) → after_acts (xs ++ ys) seen ≡ after_acts ys (after_acts xs seen)
 after_acts-append [] ys seen = refl
@@ -52,14 +53,29 @@ stopped_before Jobs before after (Unwritten line) file P same says = absurd says
 stopped_before Jobs before after Memory file P same says = unbegun same refl refl
 
 -- building was stopped before anything was done
-pub build_stopped : (name file : List ℕ) (files : List NamedFile) (before after : Seen) (stop : Stop) (B : ℕ → List ℕ → Type 0) (P : Type 0) → after ≡ before →
-    IfStop stop (λ status line. ContentLeads file (content_of files file) (Err (record { status = status; line = line }))) (λ _. Unit {0}) (λ _. ⊥) →
+pub build_stopped : (pages : Pages) (name file : List ℕ) (files : List NamedFile) (before after : Seen) (stop : Stop) (B : ℕ → List ℕ → Type 0) (P : Type 0) → after ≡ before →
+    IfStop stop (λ status line. ContentLeads pages file (content_of files file) (Err (record { status = status; line = line }))) (λ _. Unit {0}) (λ _. ⊥) →
     IfStop stop B (λ line. (line ≡ read_fault_line file) × P) (λ _. ⊥) →
-    Keeps (BuildReports name file files) before after (stop_status stop) (stop_line stop)
-build_stopped name file files before after (IsRefused status line) B P same leads causes = stopped_before _ before after (IsRefused status line) file P same (_, leads, refl)
-build_stopped name file files before after (Unread line) B P same leads causes = stopped_before _ before after (Unread line) file P same causes
-build_stopped name file files before after (Unwritten line) B P same leads causes = absurd leads
-build_stopped name file files before after Memory B P same leads causes = stopped_before _ before after Memory file P same tt
+    Keeps (BuildReports pages name file files) before after (stop_status stop) (stop_line stop)
+build_stopped pages name file files before after (IsRefused status line) B P same leads causes = stopped_before _ before after (IsRefused status line) file P same (_, leads, refl)
+build_stopped pages name file files before after (Unread line) B P same leads causes = stopped_before _ before after (Unread line) file P same causes
+build_stopped pages name file files before after (Unwritten line) B P same leads causes = absurd leads
+build_stopped pages name file files before after Memory B P same leads causes = stopped_before _ before after Memory file P same tt
+
+-- words are refused where they spell nothing
+pub words_refused : (stop : Stop) (N : Type 0) (L W : List ℕ → Type 0) → IfStop stop (λ status _. ((status ≡ 2) × N) ⊎ IsRefusalStatus status) L W → stop_status stop ≡ 2 → N
+words_refused (IsRefused status line) N L W (inl spells) two = spells.1
+words_refused (IsRefused status line) N L W (inr (inl one)) two = absurd (omega arith)
+words_refused (IsRefused status line) N L W (inr (inr three)) two = absurd (omega arith)
+words_refused (Unread line) N L W says two = absurd (omega arith)
+words_refused (Unwritten line) N L W says two = absurd (omega arith)
+words_refused Memory N L W says two = absurd (omega arith)
+
+-- what is kept to a job is kept to it among others
+pub keeps_also : (Jobs Others : Job → Type 0) → ((job : Job) → Jobs job → Others job) → (before after : Seen) (status : ℕ) (line : List ℕ) → Keeps Jobs before after status line → Keeps Others before after status line
+keeps_also Jobs Others also before after status line (follows job is how) = follows job (also job is) how
+keeps_also Jobs Others also before after status line (unread file same four says) = unread file same four says
+keeps_also Jobs Others also before after status line (unbegun same eight says) = unbegun same eight says
 
 -- the words were refused
 pub words_stopped : (files : List NamedFile) (seen : Seen) (stop : Stop) → IfStop stop (λ status line. (status ≡ 2) × (line ≡ words_line)) (λ _. ⊥) (λ _. ⊥) →

@@ -23,27 +23,23 @@ pub record Refused : Type 0 where
   pub status : ℕ
   pub line : List ℕ
 
--- the pages of the linear part and of the unrestricted region that a binary is built with
-abbrev pub default_pages : Pages
-default_pages = record { lin = 16; unr = 16 }
-
 -- a WebAssembly module leads to its canonical bytes, which by the grammar spell it, all of them
 pub record BinaryLeads (m : WModule) (binary : Result (List ℕ) Refused) : Type 0 where
   pub spells : SpellsModule (module_bytes m) m
   pub is : binary ≡ Ok (module_bytes m)
 
--- what a checked module leads to, which is linked alone
-pub record CheckedLeads (file : TypedModule) (binary : Result (List ℕ) Refused) : Type 0 where
+-- what a checked module leads to, which is linked alone and lowered for so many pages
+pub record CheckedLeads (pages : Pages) (file : TypedModule) (binary : Result (List ℕ) Refused) : Type 0 where
   pub program : Program
   pub linked : program_of file ≡ Some program
-  pub leads : BinaryLeads (low_module program default_pages) binary
+  pub leads : BinaryLeads (low_module program pages) binary
 
 -- what a module leads to: its first violation is told, or the program that it is alone is lowered
-pub data ModuleLeads (file : List ℕ) (m : Module) (binary : Result (List ℕ) Refused) : Type 0 where
-  refused : (v : Violation) → FirstViolation m v → v.found ≡ None → v.expected ≡ None → binary ≡ Err (record { status = 1; line = refused_line file v.place v.broken }) → ModuleLeads file m binary
-  typed : (notes : List (List Note)) → IsTyped m notes → CheckedLeads (record { source = m; notes = notes }) binary → ModuleLeads file m binary
+pub data ModuleLeads (pages : Pages) (file : List ℕ) (m : Module) (binary : Result (List ℕ) Refused) : Type 0 where
+  refused : (v : Violation) → FirstViolation m v → v.found ≡ None → v.expected ≡ None → binary ≡ Err (record { status = 1; line = refused_line file v.place v.broken }) → ModuleLeads pages file m binary
+  typed : (notes : List (List Note)) → IsTyped m notes → CheckedLeads pages (record { source = m; notes = notes }) binary → ModuleLeads pages file m binary
 
 -- what bytes lead to: they are no text that is read so far, or they spell a module
-pub data TextLeads (file bytes : List ℕ) (binary : Result (List ℕ) Refused) : Type 0 where
-  not_read : SpellsNone bytes → binary ≡ Err (record { status = 1; line = text_line file 1 1 (codes "NotYetBuilt") }) → TextLeads file bytes binary
-  spelled : (m : Module) → Spells bytes m → ModuleLeads file m binary → TextLeads file bytes binary
+pub data TextLeads (pages : Pages) (file bytes : List ℕ) (binary : Result (List ℕ) Refused) : Type 0 where
+  not_read : SpellsNone bytes → binary ≡ Err (record { status = 1; line = text_line file 1 1 (codes "NotYetBuilt") }) → TextLeads pages file bytes binary
+  spelled : (m : Module) → Spells bytes m → ModuleLeads pages file m binary → TextLeads pages file bytes binary

@@ -1,7 +1,5 @@
 pub mod Acts
 pub mod Lines
-pub mod Words
-pub mod Commands
 pub mod Compiled
 pub mod Reports
 pub mod Endings

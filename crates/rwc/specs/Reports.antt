@@ -8,7 +8,9 @@ use Rattle.rw_io.specs.Files.{NamedFile, content_of}
 use Rattle.rwc.specs.Compiled.{Refused, TextLeads}
 use Rattle.rwc.specs.Acts.{Act, create, append, put}
 use Rattle.rwc.specs.Lines.{words_line, missing_line, too_long_line, wrote_line}
-use Rattle.rwc.specs.Words.{Command, build, command_of}
+use Rattle.lowering_table.specs.declared.Pages.{Pages}
+use Rattle.words.specs.Words.{Command, build, SpellsCommand}
+use Rattle.words.specs.Found.{Finds}
 
 -- the acts in their order, the line to standard error, and the status
 pub record Job : Type 0 where
@@ -32,14 +34,14 @@ LoadLeads file (Some content) bytes =
     ⊎ ((length content ≤ max_file_length) × (bytes ≡ Ok content))
 
 -- the binary that bytes lead to, where there are bytes
-abbrev pub BytesLead : List ℕ → Result (List ℕ) Refused → Result (List ℕ) Refused → Type 0
-BytesLead file (Ok bytes) binary = TextLeads file bytes binary
-BytesLead file (Err refused) binary = binary ≡ Err refused
+abbrev pub BytesLead : Pages → List ℕ → Result (List ℕ) Refused → Result (List ℕ) Refused → Type 0
+BytesLead pages file (Ok bytes) binary = TextLeads pages file bytes binary
+BytesLead pages file (Err refused) binary = binary ≡ Err refused
 
 -- the binary that a file with this content leads to, or the refusal
-abbrev pub ContentLeads : List ℕ → Option (List ℕ) → Result (List ℕ) Refused → Type 0
-ContentLeads file content binary =
-    (bytes : Result (List ℕ) Refused) × LoadLeads file content bytes × BytesLead file bytes binary
+abbrev pub ContentLeads : Pages → List ℕ → Option (List ℕ) → Result (List ℕ) Refused → Type 0
+ContentLeads pages file content binary =
+    (bytes : Result (List ℕ) Refused) × LoadLeads file content bytes × BytesLead pages file bytes binary
 
 -- a binary is created under a name whole, and then a line says so
 abbrev pub build_job : List ℕ → Result (List ℕ) Refused → Job
@@ -50,16 +52,16 @@ build_job name (Ok binary) = record {
 }
 build_job name (Err refused) = refusal_job refused
 
--- the job of building a file under a name
-abbrev pub BuildReports : List ℕ → List ℕ → List NamedFile → Job → Type 0
-BuildReports name file files job =
-    (binary : Result (List ℕ) Refused) × ContentLeads file (content_of files file) binary × (job ≡ build_job name binary)
+-- the job of building a file under a name, for so many pages
+abbrev pub BuildReports : Pages → List ℕ → List ℕ → List NamedFile → Job → Type 0
+BuildReports pages name file files job =
+    (binary : Result (List ℕ) Refused) × ContentLeads pages file (content_of files file) binary × (job ≡ build_job name binary)
 
--- the job of a command
+-- the job of a command, or of words that spell none
 abbrev pub CommandReports : Option Command → List NamedFile → Job → Type 0
 CommandReports None files job = job ≡ refusal_job (record { status = 2; line = words_line })
-CommandReports (Some (build name file)) files job = BuildReports name file files job
+CommandReports (Some (build lin unr name file)) files job = BuildReports (record { lin = lin; unr = unr }) name file files job
 
 -- the job of words and files
 abbrev pub Reports : List (List ℕ) → List NamedFile → Job → Type 0
-Reports words files job = CommandReports (command_of words) files job
+Reports words files job = (command : Option Command) × Finds (SpellsCommand words) command × CommandReports command files job

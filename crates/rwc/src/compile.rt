@@ -4,14 +4,13 @@ ghost use Rattle.wasm_grammar.specs.Nesting.{ModuleNestsAtMost, nesting_limit};
 ghost use Rattle.wasm_grammar.specs.Profile.{IsInProfile};
 ghost use Rattle.wasm_spelling.specs.SpellingLaws.{HasShortContents};
 ghost use Rattle.rw_types.specs.LoneMain.{IsLoneMain};
-ghost use Rattle.lowering_table.specs.Modules.{low_module};
+ghost use Rattle.lowering_table.specs.Modules.{ArePages, low_module};
 ghost use Rattle.rw_program.specs.Linking.{program_of};
-ghost use Rattle.rwc.specs.Compiled.{TextLeads, ModuleLeads, CheckedLeads, BinaryLeads, default_pages};
+ghost use Rattle.rwc.specs.Compiled.{TextLeads, ModuleLeads, CheckedLeads, BinaryLeads};
 ghost use Rattle.rwc.specs.Stops.{IsRefusal, IsStep, IfStopped};
-ghost use Rattle.rwc.specs.Words.{is_source_file, module_name_of};
+ghost use Rattle.words.specs.Files.{is_source_file, module_name_of};
 
 use crate::ending::Stop;
-use crate::sources::module_name;
 use crate::{lines, refusals};
 use lower::{LowerError, Pages, lower};
 use rw_check::{CheckError, Checked, check};
@@ -22,15 +21,22 @@ use rw_types::{List, Module, Name};
 use std::alloc::{AllocError, Global};
 use wasm_ast::WModule;
 use wasm_encode::{EncodeError, encode};
+use words::module_name;
 
-/// The binary of a file's text.
-pub fn binary_of_text(alloc: Global, file: &str, bytes: &[u8]) -> Result<Vec<u8>, Stop>
-    requires { is_source_file file.now ≡ true }
-    ensures leads { IsStep (TextLeads file.now bytes.now) result }
+/// The binary of a file's text, for so many pages.
+pub fn binary_of_text(
+    alloc: Global,
+    pages: &Pages,
+    file: &str,
+    bytes: &[u8],
+) -> Result<Vec<u8>, Stop>
+    requires source { is_source_file file.now ≡ true }
+    requires pages { ArePages pages.now }
+    ensures leads { IsStep (TextLeads pages.now file.now bytes.now) result }
     ensures causes { IfStopped result (λ status _. IsRefusal status) (λ _. ⊥) (λ _. ⊥) }
 {
     match read(alloc, bytes) {
-        Ok(module) => binary_of_module(alloc, file, module),
+        Ok(module) => binary_of_module(alloc, pages, file, module),
         Err(error) => match error.fault {
             TextFault::NotYetBuilt => {
                 let line = lines::text(alloc, file, error.line, error.column, "NotYetBuilt");
@@ -42,13 +48,19 @@ pub fn binary_of_text(alloc: Global, file: &str, bytes: &[u8]) -> Result<Vec<u8>
 }
 
 // The binary of a module.
-fn binary_of_module(alloc: Global, file: &str, module: Module) -> Result<Vec<u8>, Stop>
+fn binary_of_module(
+    alloc: Global,
+    pages: &Pages,
+    file: &str,
+    module: Module,
+) -> Result<Vec<u8>, Stop>
     requires source { is_source_file file.now ≡ true }
-    ensures leads { IsStep (ModuleLeads file.now «module») result }
+    requires pages { ArePages pages.now }
+    ensures leads { IsStep (ModuleLeads pages.now file.now «module») result }
     ensures causes { IfStopped result (λ status _. IsRefusal status) (λ _. ⊥) (λ _. ⊥) }
 {
     match check(alloc, module) {
-        Ok(checked) => binary_of_checked(alloc, file, checked),
+        Ok(checked) => binary_of_checked(alloc, pages, file, checked),
         Err(CheckError::Refused { place, rule, .. }) => Err(Stop::refused(
             1,
             refusals::refused(alloc, file, &place, rule),
@@ -58,13 +70,19 @@ fn binary_of_module(alloc: Global, file: &str, module: Module) -> Result<Vec<u8>
 }
 
 // The binary of a checked module, which is linked alone.
-fn binary_of_checked(alloc: Global, file: &str, checked: Checked) -> Result<Vec<u8>, Stop>
+fn binary_of_checked(
+    alloc: Global,
+    pages: &Pages,
+    file: &str,
+    checked: Checked,
+) -> Result<Vec<u8>, Stop>
     requires source { is_source_file file.now ≡ true }
-    ensures leads { IsStep (CheckedLeads checked) result }
+    requires pages { ArePages pages.now }
+    ensures leads { IsStep (CheckedLeads pages.now checked) result }
     ensures causes { IfStopped result (λ status _. IsRefusal status) (λ _. ⊥) (λ _. ⊥) }
 {
     match link_alone(alloc, file, checked) {
-        Ok(program) => binary_of_program(alloc, &program),
+        Ok(program) => binary_of_program(alloc, pages, &program),
         Err(_) => Err(Stop::Memory),
     }
 }
@@ -99,12 +117,12 @@ fn name_of(alloc: Global, file: &str) -> Result<Name, AllocError>
 }
 
 // The binary of a linked program.
-fn binary_of_program(alloc: Global, program: &Linked) -> Result<Vec<u8>, Stop>
-    ensures leads { IsStep (BinaryLeads (low_module program.now default_pages)) result }
+fn binary_of_program(alloc: Global, pages: &Pages, program: &Linked) -> Result<Vec<u8>, Stop>
+    requires { ArePages pages.now }
+    ensures leads { IsStep (BinaryLeads (low_module program.now pages.now)) result }
     ensures causes { IfStopped result (λ status _. IsRefusal status) (λ _. ⊥) (λ _. ⊥) }
 {
-    let pages = Pages { lin: 16, unr: 16 };
-    match lower(alloc, program, &pages) {
+    match lower(alloc, program, pages) {
         Ok(lowered) => binary_of_lowered(alloc, &lowered),
         Err(LowerError::Memory) => Err(Stop::Memory),
     }

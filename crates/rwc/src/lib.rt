@@ -8,9 +8,7 @@ mod laws;
 mod lines;
 mod perform;
 mod refusals;
-mod sources;
 mod top;
-mod words;
 
 pub use ending::Status;
 pub use laws::one_report;

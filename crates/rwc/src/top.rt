@@ -12,15 +12,17 @@ ghost use Rattle.rwc.specs.Built.{Built};
 ghost use Rattle.rwc.specs.Endings.{Keeps, WriteRose};
 ghost use Rattle.rwc.specs.Lines.{words_line};
 ghost use Rattle.rwc.specs.Outcomes.{Tells, Outcome};
-ghost use Rattle.rwc.specs.Reports.{Job, Reports, max_file_length};
+ghost use Rattle.rwc.specs.Reports.{Job, Reports, CommandReports, max_file_length};
 ghost use Rattle.rwc.specs.Stops.{IsRefusal, stop_status, stop_line, status_of, line_of, IfStop, IfStopped};
-ghost use Rattle.rwc.specs.Words.{command_of, build};
+ghost use Rattle.words.specs.Words.{SpellsCommand, SpellNothing, HasFiles, build};
+ghost use Rattle.words.specs.Commands.{spelled_command, spelled_build, HasPages};
 
 use crate::build::build;
 use crate::ending::{Done, Status, Stop};
-use crate::words::read_words;
+use lower::Pages;
 use rw_io::{Shelf, Sink, WriteStop, put_whole};
 use std::alloc::Global;
+use words::{Build, Command, read_words};
 
 /// The program's work: the words after the program's name, the files, standard output and standard error.
 /// A fault or a stall of `err` changes nothing in the status; want of memory there makes it 8.
@@ -34,26 +36,26 @@ pub fn rwc<S: Shelf, O: Sink, E: Sink>(
     ensures outcome { (files : List NamedFile) → (S.state shelf.old).holding.files ≡ Some files
         → Outcome (Reports (map string_bytes words.now) files) (S.state shelf.old) (S.state shelf.new)
         (O.state out.old) (O.state out.new) (E.state err.old) (E.state err.new) result.0 }
-    ensures built { (name file said : List ℕ) (files : List NamedFile) (created : NamedFile) → command_of (map string_bytes words.now) ≡ Some (build name file)
+    ensures built { (lin unr : ℕ) (name file said : List ℕ) (files : List NamedFile) (created : NamedFile) → SpellsCommand (map string_bytes words.now) (build lin unr name file)
         → (S.state shelf.old).holding.files ≡ Some files → (S.state shelf.old).holding.created ≡ Some created → (O.state out.old).bytes ≡ Some said
-        → result.0 ≡ 0 → Built files name file said (S.state shelf.new) (O.state out.new) }
+        → result.0 ≡ 0 → Built files (record { lin = lin; unr = unr }) name file said (S.state shelf.new) (O.state out.new) }
     ensures text { (files : List NamedFile) (job : Job) → (S.state shelf.old).holding.files ≡ Some files → Reports (map string_bytes words.now) files job
         → PutsText (text_of job.acts) (O.state out.old).bytes (O.state out.new).bytes result.0 }
     ensures reported { (files : List NamedFile) → (S.state shelf.old).holding.files ≡ Some files → result.0 ≢ 4 → result.0 ≢ 5 → result.0 ≢ 8
         → HasStatus (map string_bytes words.now) files result.0 }
     ensures complete { (files : List NamedFile) (job : Job) → (S.state shelf.old).holding.files ≡ Some files → Reports (map string_bytes words.now) files job
         → result.0 ≢ 4 → result.0 ≢ 5 → (result.0 ≡ job.status) ⊎ (result.0 ≡ 8) }
-    ensures refused { (name file : List ℕ) (files : List NamedFile) → command_of (map string_bytes words.now) ≡ Some (build name file)
+    ensures refused { (lin unr : ℕ) (name file : List ℕ) (files : List NamedFile) → SpellsCommand (map string_bytes words.now) (build lin unr name file)
         → (S.state shelf.old).holding.files ≡ Some files → result.0 ≡ 1 → IsRefused (content_of files file) }
-    ensures unloadable { (name file : List ℕ) (files : List NamedFile) → command_of (map string_bytes words.now) ≡ Some (build name file)
+    ensures unloadable { (lin unr : ℕ) (name file : List ℕ) (files : List NamedFile) → SpellsCommand (map string_bytes words.now) (build lin unr name file)
         → (S.state shelf.old).holding.files ≡ Some files → result.0 ≡ 3 → IsUnloadable (content_of files file) }
-    ensures accepted { (name file bytes : List ℕ) (files : List NamedFile) (m : Module) (notes : List (List Note)) → command_of (map string_bytes words.now) ≡ Some (build name file)
+    ensures accepted { (lin unr : ℕ) (name file bytes : List ℕ) (files : List NamedFile) (m : Module) (notes : List (List Note)) → SpellsCommand (map string_bytes words.now) (build lin unr name file)
         → (S.state shelf.old).holding.files ≡ Some files → content_of files file ≡ Some bytes → length bytes ≤ max_file_length → Spells bytes m → IsTyped m notes
         → result.0 ≢ 4 → result.0 ≢ 5 → (result.0 ≡ 0) ⊎ (result.0 ≡ 8) }
     ensures untouched { (files : List NamedFile) → (S.state shelf.old).holding.files ≡ Some files → result.0 ≢ 0 → result.0 ≢ 5 → result.0 ≢ 8
         → seen_of (S.state shelf.new) (O.state out.new) ≡ seen_of (S.state shelf.old) (O.state out.old) }
-    ensures words_refused { result.0 ≡ 2 → command_of (map string_bytes words.now) ≡ None }
-    ensures not_plain { command_of (map string_bytes words.now) ≡ None → (result.0 ≡ 2) ⊎ (result.0 ≡ 8) }
+    ensures words_refused { result.0 ≡ 2 → SpellNothing (map string_bytes words.now) }
+    ensures not_plain { SpellNothing (map string_bytes words.now) → (result.0 ≡ 2) ⊎ (result.0 ≡ 8) }
     ensures read_fault { result.0 ≡ 4 → Rose (S.state shelf.old).load_faults (S.state shelf.new).load_faults }
     ensures write_fault { result.0 ≡ 5 → WriteRose (S.state shelf.old) (S.state shelf.new) (O.state out.old) (O.state out.new) }
 {
@@ -73,15 +75,67 @@ fn perform<S: Shelf, O: Sink>(
     ensures keeps { (files : List NamedFile) → (S.state shelf.old).holding.files ≡ Some files
         → Keeps (Reports (map string_bytes words.now) files) (seen_of (S.state shelf.old) (O.state out.old))
         (seen_of (S.state shelf.new) (O.state out.new)) (status_of result) (line_of result) }
-    ensures not_plain { command_of (map string_bytes words.now) ≡ None → IsErr result × IfStopped result (λ status _. status ≡ 2) (λ _. ⊥) (λ _. ⊥) }
-    ensures causes { IfStopped result (λ status _. ((status ≡ 2) × (command_of (map string_bytes words.now) ≡ None)) ⊎ IsRefusal status)
+    ensures not_plain { SpellNothing (map string_bytes words.now) → IsErr result × IfStopped result (λ status _. status ≡ 2) (λ _. ⊥) (λ _. ⊥) }
+    ensures causes { IfStopped result (λ status _. ((status ≡ 2) × (SpellNothing (map string_bytes words.now))) ⊎ IsRefusal status)
         (λ _. Rose (S.state shelf.old).load_faults (S.state shelf.new).load_faults)
         (λ _. WriteRose (S.state shelf.old) (S.state shelf.new) (O.state out.old) (O.state out.new)) }
 {
-    match read_words(words) {
-        Some(command) => build(alloc, command.name, command.file, shelf, out),
-        None => Err(refuse_words(alloc)),
+    match read_words(alloc, words) {
+        Ok(Some(command)) => perform_command(alloc, &command, shelf, out),
+        Ok(None) => Err(refuse_words(alloc)),
+        Err(_) => Err(Stop::Memory),
     }
+}
+
+/// The job of a command.
+fn perform_command<S: Shelf, O: Sink>(
+    alloc: Global,
+    command: &Command<'_>,
+    shelf: &mut S,
+    out: &mut O,
+) -> Result<Done, Stop>
+    requires files { HasFiles (spelled_command command.now) }
+    requires pages { HasPages (spelled_command command.now) }
+    ensures keeps { (files : List NamedFile) → (S.state shelf.old).holding.files ≡ Some files
+        → Keeps (CommandReports (Some (spelled_command command.now)) files) (seen_of (S.state shelf.old) (O.state out.old))
+        (seen_of (S.state shelf.new) (O.state out.new)) (status_of result) (line_of result) }
+    ensures causes { IfStopped result (λ status _. IsRefusal status)
+        (λ _. Rose (S.state shelf.old).load_faults (S.state shelf.new).load_faults)
+        (λ _. WriteRose (S.state shelf.old) (S.state shelf.new) (O.state out.old) (O.state out.new)) }
+{
+    let words = build_words(command);
+    perform_build(alloc, &words, shelf, out)
+}
+
+fn build_words<'a>(command: &Command<'a>) -> Build<'a>
+    ensures { spelled_build result ≡ spelled_command command.now }
+{
+    match command {
+        Command::Build(words) => *words,
+    }
+}
+
+/// The job of the command `build`.
+fn perform_build<S: Shelf, O: Sink>(
+    alloc: Global,
+    words: &Build<'_>,
+    shelf: &mut S,
+    out: &mut O,
+) -> Result<Done, Stop>
+    requires files { HasFiles (spelled_build words.now) }
+    requires pages { HasPages (spelled_build words.now) }
+    ensures keeps { (files : List NamedFile) → (S.state shelf.old).holding.files ≡ Some files
+        → Keeps (CommandReports (Some (spelled_build words.now)) files) (seen_of (S.state shelf.old) (O.state out.old))
+        (seen_of (S.state shelf.new) (O.state out.new)) (status_of result) (line_of result) }
+    ensures causes { IfStopped result (λ status _. IsRefusal status)
+        (λ _. Rose (S.state shelf.old).load_faults (S.state shelf.new).load_faults)
+        (λ _. WriteRose (S.state shelf.old) (S.state shelf.new) (O.state out.old) (O.state out.new)) }
+{
+    let pages = Pages {
+        lin: words.lin,
+        unr: words.unr,
+    };
+    build(alloc, &pages, words.name, words.file, shelf, out)
 }
 
 fn refuse_words(alloc: Global) -> Stop

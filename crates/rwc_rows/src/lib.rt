@@ -5,3 +5,7 @@
 mod build_rows;
 #[cfg(test)]
 mod io_rows;
+#[cfg(test)]
+mod rows;
+#[cfg(test)]
+mod words_rows;

@@ -1,20 +1,24 @@
-use Rattle.std.proofs.Common.{subst}
+use Rattle.std.proofs.Common.{map, string_bytes, sym, subst, Some, None}
 use Rattle.std.specs.declared.option.Option.{Option}
+use Rattle.std.specs.Option.{option_map}
+use Rattle.words.specs.declared.Command.{Command}
+use Rattle.words.specs.Commands.{spelled_command}
 use Rattle.rwc.specs.Acts.{seen_of}
-use Rattle.rwc.specs.Endings.{Keeps}
-use Rattle.rwc.specs.Reports.{CommandReports}
-use Rattle.rwc.specs.Stops.{status_of, line_of, stop_status, stop_line}
-use Rattle.rwc.specs.Words.{Command}
-use Rattle.rwc.proofs.Endings.{words_stopped}
+use Rattle.rwc.specs.Reports.{CommandReports, Reports}
+use Rattle.rwc.proofs.Endings.{keeps_also, words_stopped}
 use Rattle.rwc.proofs.top.perform.Goals as goal
 
-pub returns-in-Some-clause-keeps : goal.returns-in-Some-clause-keeps
-returns-in-Some-clause-keeps g c files told =
-    subst (λ (command : Option Command). Keeps (CommandReports command files) (seen_of (g.S.Shelf.state c.args.shelf.now) (g.O.Sink.state c.args.out.now)) (seen_of (g.S.Shelf.state c.build.new.shelf) (g.O.Sink.state c.build.new.out)) (status_of c.build.result) (line_of c.build.result))
-    c.in-Some.ensures.command (c.build.ensures.keeps files told)
+pub returns-in-Ok-Some-clause-keeps : goal.returns-in-Ok-Some-clause-keeps
+returns-in-Ok-Some-clause-keeps g c files told =
+    let found = option_map spelled_command c.in-Ok-Some.field-0 in
+    keeps_also (CommandReports (Some (spelled_command c.in-Ok-Some.command)) files) (Reports (map string_bytes c.args.words.now) files)
+    (λ job is. (found, c.in-Ok-Some.ensures.command, subst (λ (command : Option Command). CommandReports (option_map spelled_command command) files job) (sym c.in-Ok-Some.field-0-is) is))
+    _ _ _ _ (c.perform_command.ensures.keeps files told)
 
-pub returns-in-None-clause-keeps : goal.returns-in-None-clause-keeps
-returns-in-None-clause-keeps g c files told =
+pub returns-in-Ok-None-clause-keeps : goal.returns-in-Ok-None-clause-keeps
+returns-in-Ok-None-clause-keeps g c files told =
+    let found = option_map spelled_command c.in-Ok-None.field-0 in
     let seen = seen_of (g.S.Shelf.state c.args.shelf.now) (g.O.Sink.state c.args.out.now) in
-    subst (λ (command : Option Command). Keeps (CommandReports command files) seen seen (stop_status c.refuse_words.result) (stop_line c.refuse_words.result))
-    c.in-None.ensures.command (words_stopped files seen c.refuse_words.result c.refuse_words.ensures)
+    keeps_also (CommandReports None files) (Reports (map string_bytes c.args.words.now) files)
+    (λ job is. (found, c.in-Ok-None.ensures.command, subst (λ (command : Option Command). CommandReports (option_map spelled_command command) files job) (sym c.in-Ok-None.field-0-is) is))
+    seen seen _ _ (words_stopped files seen c.refuse_words.result c.refuse_words.ensures)

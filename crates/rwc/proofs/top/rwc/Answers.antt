@@ -1,14 +1,11 @@
-use Rattle.std.proofs.Common.{[], map, string_bytes, inl, sym, subst, arith, ◌∙◌}
-use Rattle.std.specs.declared.option.Option.{Option}
-use Rattle.rwc.specs.Acts.{seen_of}
-use Rattle.rwc.specs.Endings.{Keeps}
-use Rattle.rwc.specs.Reports.{CommandReports}
-use Rattle.rwc.specs.Words.{Command, command_of}
-use Rattle.rwc.proofs.Building.{built, told_zero}
+use Rattle.std.proofs.Common.{Some, [], map, string_bytes, inl, sym, arith, ◌∙◌}
+use Rattle.rwc.specs.Reports.{BuildReports, Reports}
+use Rattle.words.specs.Words.{build}
+use Rattle.rwc.proofs.Building.{built, told_zero, told_status}
 use Rattle.rwc.proofs.Answering.{keeps_text, complete, reported, accepted, untouched, why_refused, why_unloadable, never_four}
-use Rattle.rwc.proofs.OneReport.{one_report}
+use Rattle.rwc.proofs.OneReport.{one_report, reports_found}
 use Rattle.rwc.specs.Stops.{done_status, stop_status, stop_line}
-use Rattle.rwc.proofs.Endings.{tells_nothing}
+use Rattle.rwc.proofs.Endings.{tells_nothing, keeps_also, words_refused}
 use Rattle.rwc.proofs.top.rwc.Goals as goal
 
 pub returns-in-Ok-clause-outcome : goal.returns-in-Ok-clause-outcome
@@ -28,20 +25,22 @@ returns-in-Err-clause-outcome g c files told = record {
 }
 
 pub returns-in-Ok-clause-built : goal.returns-in-Ok-clause-built
-returns-in-Ok-clause-built g c name file said files created spells told begun heard zero =
-    built files name file said created (g.S.Shelf.state c.args.shelf.now) (g.S.Shelf.state c.perform.new.shelf) (g.O.Sink.state c.args.out.now) (g.O.Sink.state c.perform.new.out) _ _
-    (subst (λ (command : Option Command). Keeps (CommandReports command files) (seen_of (g.S.Shelf.state c.args.shelf.now) (g.O.Sink.state c.args.out.now)) (seen_of (g.S.Shelf.state c.perform.new.shelf) (g.O.Sink.state c.perform.new.out)) (done_status c.in-Ok.done) []) spells (c.in-Ok.ensures.keeps files told))
+returns-in-Ok-clause-built g c lin unr name file said files created spells told begun heard zero =
+    built (record { lin = lin; unr = unr }) files name file said created (g.S.Shelf.state c.args.shelf.now) (g.S.Shelf.state c.perform.new.shelf) (g.O.Sink.state c.args.out.now) (g.O.Sink.state c.perform.new.out) _ _
+    (keeps_also (Reports (map string_bytes c.args.words.now) files) (BuildReports (record { lin = lin; unr = unr }) name file files)
+    (λ job is. reports_found (map string_bytes c.args.words.now) (Some (build lin unr name file)) files job spells is) _ _ _ _ (c.in-Ok.ensures.keeps files told))
     (sym c.status.ensures ∙ zero) begun heard
 
 pub returns-in-Err-clause-built : goal.returns-in-Err-clause-built
-returns-in-Err-clause-built g c name file said files created spells told begun heard zero =
-    built files name file said created (g.S.Shelf.state c.args.shelf.now) (g.S.Shelf.state c.perform.new.shelf) (g.O.Sink.state c.args.out.now) (g.O.Sink.state c.perform.new.out) _ _
-    (subst (λ (command : Option Command). Keeps (CommandReports command files) (seen_of (g.S.Shelf.state c.args.shelf.now) (g.O.Sink.state c.args.out.now)) (seen_of (g.S.Shelf.state c.perform.new.shelf) (g.O.Sink.state c.perform.new.out)) (stop_status c.in-Err.stop) (stop_line c.in-Err.stop)) spells (c.in-Err.ensures.keeps files told))
+returns-in-Err-clause-built g c lin unr name file said files created spells told begun heard zero =
+    built (record { lin = lin; unr = unr }) files name file said created (g.S.Shelf.state c.args.shelf.now) (g.S.Shelf.state c.perform.new.shelf) (g.O.Sink.state c.args.out.now) (g.O.Sink.state c.perform.new.out) _ _
+    (keeps_also (Reports (map string_bytes c.args.words.now) files) (BuildReports (record { lin = lin; unr = unr }) name file files)
+    (λ job is. reports_found (map string_bytes c.args.words.now) (Some (build lin unr name file)) files job spells is) _ _ _ _ (c.in-Err.ensures.keeps files told))
     (told_zero _ _ c.tell.ensures.same zero) begun heard
 
 pub returns-in-Ok-clause-text : goal.returns-in-Ok-clause-text
 returns-in-Ok-clause-text g c files job told right =
-    keeps_text _ (one_report (map string_bytes c.args.words.now) files) job right (never_four (command_of (map string_bytes c.args.words.now)) files job right) _ _ _ _ _ (c.in-Ok.ensures.keeps files told) (inl c.status.ensures)
+    keeps_text _ (one_report (map string_bytes c.args.words.now) files) job right (never_four (map string_bytes c.args.words.now) files job right) _ _ _ _ _ (c.in-Ok.ensures.keeps files told) (inl c.status.ensures)
 
 pub returns-in-Ok-clause-reported : goal.returns-in-Ok-clause-reported
 returns-in-Ok-clause-reported g c files told not_four not_five not_eight =
@@ -52,18 +51,18 @@ returns-in-Ok-clause-complete g c files job told right not_four not_five =
     complete _ (one_report (map string_bytes c.args.words.now) files) job right _ _ _ _ _ (c.in-Ok.ensures.keeps files told) (inl c.status.ensures) not_four not_five
 
 pub returns-in-Ok-clause-refused : goal.returns-in-Ok-clause-refused
-returns-in-Ok-clause-refused g c name file files spells told one =
-    why_refused name file (map string_bytes c.args.words.now) files _ spells
+returns-in-Ok-clause-refused g c lin unr name file files spells told one =
+    why_refused lin unr name file (map string_bytes c.args.words.now) files _ spells
     (reported (map string_bytes c.args.words.now) files _ _ _ _ _ (c.in-Ok.ensures.keeps files told) (inl c.status.ensures) (λ e. omega (arith, one, e)) (λ e. omega (arith, one, e)) (λ e. omega (arith, one, e))) one
 
 pub returns-in-Ok-clause-unloadable : goal.returns-in-Ok-clause-unloadable
-returns-in-Ok-clause-unloadable g c name file files spells told three =
-    why_unloadable name file (map string_bytes c.args.words.now) files _ spells
+returns-in-Ok-clause-unloadable g c lin unr name file files spells told three =
+    why_unloadable lin unr name file (map string_bytes c.args.words.now) files _ spells
     (reported (map string_bytes c.args.words.now) files _ _ _ _ _ (c.in-Ok.ensures.keeps files told) (inl c.status.ensures) (λ e. omega (arith, three, e)) (λ e. omega (arith, three, e)) (λ e. omega (arith, three, e))) three
 
 pub returns-in-Err-clause-text : goal.returns-in-Err-clause-text
 returns-in-Err-clause-text g c files job told right =
-    keeps_text _ (one_report (map string_bytes c.args.words.now) files) job right (never_four (command_of (map string_bytes c.args.words.now)) files job right) _ _ _ _ _ (c.in-Err.ensures.keeps files told) c.tell.ensures.same
+    keeps_text _ (one_report (map string_bytes c.args.words.now) files) job right (never_four (map string_bytes c.args.words.now) files job right) _ _ _ _ _ (c.in-Err.ensures.keeps files told) c.tell.ensures.same
 
 pub returns-in-Err-clause-reported : goal.returns-in-Err-clause-reported
 returns-in-Err-clause-reported g c files told not_four not_five not_eight =
@@ -74,13 +73,13 @@ returns-in-Err-clause-complete g c files job told right not_four not_five =
     complete _ (one_report (map string_bytes c.args.words.now) files) job right _ _ _ _ _ (c.in-Err.ensures.keeps files told) c.tell.ensures.same not_four not_five
 
 pub returns-in-Err-clause-refused : goal.returns-in-Err-clause-refused
-returns-in-Err-clause-refused g c name file files spells told one =
-    why_refused name file (map string_bytes c.args.words.now) files _ spells
+returns-in-Err-clause-refused g c lin unr name file files spells told one =
+    why_refused lin unr name file (map string_bytes c.args.words.now) files _ spells
     (reported (map string_bytes c.args.words.now) files _ _ _ _ _ (c.in-Err.ensures.keeps files told) c.tell.ensures.same (λ e. omega (arith, one, e)) (λ e. omega (arith, one, e)) (λ e. omega (arith, one, e))) one
 
 pub returns-in-Err-clause-unloadable : goal.returns-in-Err-clause-unloadable
-returns-in-Err-clause-unloadable g c name file files spells told three =
-    why_unloadable name file (map string_bytes c.args.words.now) files _ spells
+returns-in-Err-clause-unloadable g c lin unr name file files spells told three =
+    why_unloadable lin unr name file (map string_bytes c.args.words.now) files _ spells
     (reported (map string_bytes c.args.words.now) files _ _ _ _ _ (c.in-Err.ensures.keeps files told) c.tell.ensures.same (λ e. omega (arith, three, e)) (λ e. omega (arith, three, e)) (λ e. omega (arith, three, e))) three
 
 pub returns-in-Ok-clause-untouched : goal.returns-in-Ok-clause-untouched
@@ -92,9 +91,12 @@ returns-in-Err-clause-untouched g c files told not_zero not_five not_eight =
     untouched (map string_bytes c.args.words.now) files _ _ _ _ _ (c.in-Err.ensures.keeps files told) c.tell.ensures.same not_zero not_five not_eight
 
 pub returns-in-Ok-clause-accepted : goal.returns-in-Ok-clause-accepted
-returns-in-Ok-clause-accepted g c name file bytes files m notes plain told there short spells derived not_four not_five =
-    accepted name file bytes (map string_bytes c.args.words.now) files m notes _ _ _ _ _ plain (c.in-Ok.ensures.keeps files told) (inl c.status.ensures) there short spells derived not_four not_five
+returns-in-Ok-clause-accepted g c lin unr name file bytes files m notes plain told there short spells derived not_four not_five =
+    accepted lin unr name file bytes (map string_bytes c.args.words.now) files m notes _ _ _ _ _ plain (c.in-Ok.ensures.keeps files told) (inl c.status.ensures) there short spells derived not_four not_five
 
 pub returns-in-Err-clause-accepted : goal.returns-in-Err-clause-accepted
-returns-in-Err-clause-accepted g c name file bytes files m notes plain told there short spells derived not_four not_five =
-    accepted name file bytes (map string_bytes c.args.words.now) files m notes _ _ _ _ _ plain (c.in-Err.ensures.keeps files told) c.tell.ensures.same there short spells derived not_four not_five
+returns-in-Err-clause-accepted g c lin unr name file bytes files m notes plain told there short spells derived not_four not_five =
+    accepted lin unr name file bytes (map string_bytes c.args.words.now) files m notes _ _ _ _ _ plain (c.in-Err.ensures.keeps files told) c.tell.ensures.same there short spells derived not_four not_five
+
+pub returns-in-Err-clause-words_refused : goal.returns-in-Err-clause-words_refused
+returns-in-Err-clause-words_refused g c two = words_refused c.in-Err.stop _ _ _ c.in-Err.ensures.causes (told_status _ _ 2 c.tell.ensures.same two (λ e. omega arith))

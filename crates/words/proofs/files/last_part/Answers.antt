@@ -1,8 +1,8 @@
 use Rattle.std.proofs.Common.{◌+◌, ◌-◌, ℕ, sym, ◌∙◌, ap, drop, length, arith, length-drop}
 use Rattle.std.proofs.lemmas.List.{take_all}
-use Rattle.rwc.specs.Words.{after_last_slash}
-use Rattle.rwc.proofs.Slashes.{last_after_first, last_is_all, found, missed}
-use Rattle.rwc.proofs.sources.last_part.Goals as goal
+use Rattle.words.specs.Files.{after_last_slash}
+use Rattle.words.proofs.Slashes.{last_after_first, last_is_all, found, missed}
+use Rattle.words.proofs.files.last_part.Goals as goal
 
 pub loop-at-preserved : goal.loop-at-preserved
 loop-at-preserved c =

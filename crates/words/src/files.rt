@@ -2,7 +2,7 @@
 ghost use Rattle.std.specs.Prelude.{◌≡◌, ◌==◌, ◌<◌, ◌+◌, ◌^◌, length, position, IfSome};
 ghost use Rattle.std.specs.List.{list_all};
 ghost use Rattle.std.specs.Option.{option_copied};
-ghost use Rattle.rwc.specs.Words.{is_plain_name, is_source_file, is_module_name, after_last_slash, module_name_of};
+ghost use Rattle.words.specs.Files.{is_plain_name, is_source_file, is_module_name, after_last_slash, module_name_of};
 ghost use Rattle.rw_types.specs.Names.{is_name_byte};
 
 /// Whether a word is a name: it is not empty and does not begin with a dash.

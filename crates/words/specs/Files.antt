@@ -1,16 +1,11 @@
--- The plain form of the words of the command line; this project's own.
+-- The names of files: which are plain words, and which are those of sources; this project's own.
 use Rattle.std.specs.Prelude.{ℕ, ◌-◌, List, [], ◌∷◌, length, take, drop, Bool, false, not, ◌&&◌, if◌then◌else◌, ◌==◌, nat_lt, nat_le, codes}
 use Rattle.std.specs.List.{list_any, list_all}
 use Rattle.std.specs.Option.{option_map_or}
 use Rattle.std.specs.Str.{bytes_eq}
-use Rattle.rw_types.specs.Names.{is_name_byte}
 use Rattle.std.specs.declared.option.Option.{Option}
 use Rattle.std.specs.declared.option.Option.TheVariants.{None, Some}
-
--- one command with its options and files
-pub data Command : Type 0 where
-  -- a binary under the first name of the file with the second
-  build : (name file : List ℕ) → Command
+use Rattle.rw_types.specs.Names.{is_name_byte}
 
 -- what stands after the last slash
 abbrev pub after_last_slash : List ℕ → List ℕ
@@ -38,10 +33,3 @@ is_plain_name (first ∷ rest) = not (first == 45)
 -- a source file does not begin with a dash, and names a module
 abbrev pub is_source_file : List ℕ → Bool
 is_source_file file = is_plain_name file && option_map_or is_module_name (module_name_of file) false
-
--- the command that the words spell, where they have the plain form
-abbrev pub command_of : List (List ℕ) → Option Command
-command_of (command ∷ flag ∷ name ∷ file ∷ []) =
-    if bytes_eq command (codes "build") && bytes_eq flag (codes "-o") && is_plain_name name && is_source_file file
-    then Some (build name file) else None
-command_of words = None

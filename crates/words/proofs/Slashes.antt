@@ -2,7 +2,7 @@
 use Rattle.std.proofs.Common.{◌≡◌, ℕ, suc, ◌+◌, ◌<◌, Bool, true, false, not, ◌||◌, List, [], ◌∷◌, length, drop, cond, refl, ap, sym, ◌∙◌, arith, ◌==◌, ◌≤◌, nat_lt, Some, None, position}
 use Rattle.std.proofs.lemmas.Bool.Decides.{nat_tests}
 use Rattle.std.specs.List.{list_any, after_first, position_or_len}
-use Rattle.rwc.specs.Words.{after_last_slash}
+use Rattle.words.specs.Files.{after_last_slash}
 
 abbrev is_slash : ℕ → Bool
 is_slash b = b == 47

@@ -1,6 +1,6 @@
 use Rattle.std.proofs.Common.{◌≡◌, length}
-use Rattle.rwc.specs.Words.{after_last_slash}
-use Rattle.rwc.proofs.sources.last_part.Given as goal
+use Rattle.words.specs.Files.{after_last_slash}
+use Rattle.words.proofs.files.last_part.Given as goal
 
 -- what is left has the same last part
 abbrev pub invariant-loop-at : goal.invariant-loop-at

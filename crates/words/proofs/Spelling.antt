@@ -1,0 +1,76 @@
+-- What words spell, from their options and files.
+use Rattle.std.proofs.Common.{◌≡◌, ℕ, List, [], ◌∷◌, ◌++◌, true, ◌≤◌, ◌-◌, length, take, drop, map, get_or, refl, ap, sym, ◌∙◌, subst, arith}
+use Rattle.std.proofs.lemmas.List.{take_all}
+use Rattle.std.specs.Prelude.{codes}
+use Rattle.std.specs.declared.option.Option.{Option}
+use Rattle.std.specs.declared.option.Option.TheVariants.{None, Some}
+use Rattle.std.specs.Option.{option_map}
+use Rattle.words.specs.declared.Build.{Build as Built}
+use Rattle.words.specs.Found.{Finds}
+use Rattle.words.specs.Commands.{spelled_build}
+use Rattle.words.specs.Files.{is_source_file}
+use Rattle.words.specs.Words.{Setting, words_of, values_for, HaveFlags, GivesNumber, GivesName, Command, build, SpellsCommand}
+use Rattle.words.specs.Reading.{settings_of, files_after}
+use Rattle.words.proofs.Splitting.{splits, joined}
+
+-- the words after `build` give these numbers, this name and this file
+pub record GivesBuild (rest : List (List ℕ)) (lin unr : ℕ) (name file : List ℕ) : Type 0 where
+  pub flags : HaveFlags (codes "-o" ∷ codes "--lin" ∷ codes "--unr" ∷ []) (settings_of rest)
+  pub lin_given : GivesNumber 1 512 16 (values_for (codes "--lin") (settings_of rest)) lin
+  pub unr_given : GivesNumber 0 512 16 (values_for (codes "--unr") (settings_of rest)) unr
+  pub name_given : GivesName (values_for (codes "-o") (settings_of rest)) name
+  pub file_is : files_after rest ≡ file ∷ []
+  pub source : is_source_file file ≡ true
+
+tail_is : (x y : List ℕ) (xs ys : List (List ℕ)) → x ∷ xs ≡ y ∷ ys → xs ≡ ys
+tail_is x y xs ys e = cc
+
+pub head_is : (x y : List ℕ) (xs ys : List (List ℕ)) → x ∷ xs ≡ y ∷ ys → x ≡ y
+head_is x y xs ys e = cc
+
+-- `build` and such words spell the command
+pub spells_build : (rest : List (List ℕ)) (lin unr : ℕ) (name file : List ℕ) → GivesBuild rest lin unr name file → SpellsCommand (codes "build" ∷ rest) (build lin unr name file)
+spells_build rest lin unr name file g = record {
+  settings = settings_of rest;
+  are = ap (λ (words : List (List ℕ)). codes "build" ∷ words) (sym (joined rest) ∙ ap (λ (files : List (List ℕ)). words_of (settings_of rest) ++ files) g.file_is);
+  flags = g.flags;
+  given = (g.lin_given, g.unr_given, g.name_given);
+  files = g.source;
+}
+
+-- and no others do
+pub build_spelled : (word : List ℕ) (rest : List (List ℕ)) (lin unr : ℕ) (name file : List ℕ) → SpellsCommand (word ∷ rest) (build lin unr name file) → GivesBuild rest lin unr name file
+build_spelled word rest lin unr name file s =
+    let same = tail_is word (codes "build") rest (words_of s.settings ++ (file ∷ [])) s.are in
+    let split = splits (codes "-o" ∷ codes "--lin" ∷ codes "--unr" ∷ []) s.settings (file ∷ []) refl s.flags (record { options = refl; after = refl }) in
+    let options : settings_of rest ≡ s.settings = ap settings_of same ∙ split.options in
+    record {
+      flags = subst (λ (o : List Setting). HaveFlags (codes "-o" ∷ codes "--lin" ∷ codes "--unr" ∷ []) o) (sym options) s.flags;
+      lin_given = subst (λ (o : List Setting). GivesNumber 1 512 16 (values_for (codes "--lin") o) lin) (sym options) s.given.0;
+      unr_given = subst (λ (o : List Setting). GivesNumber 0 512 16 (values_for (codes "--unr") o) unr) (sym options) s.given.1;
+      name_given = subst (λ (o : List Setting). GivesName (values_for (codes "-o") o) name) (sym options) s.given.2;
+      file_is = ap files_after same ∙ split.after;
+      source = s.files;
+    }
+
+-- where nothing gives a build, `build` and these words spell nothing
+pub no_build : (rest : List (List ℕ)) → ((lin unr : ℕ) (name file : List ℕ) → GivesBuild rest lin unr name file → ⊥) → (command : Command) → SpellsCommand (codes "build" ∷ rest) command → ⊥
+no_build rest none (build lin unr name file) s = none lin unr name file (build_spelled (codes "build") rest lin unr name file s)
+
+pub found_no_build : (rest : List (List ℕ)) (result : Option Built) → result ≡ None → ((lin unr : ℕ) (name file : List ℕ) → GivesBuild rest lin unr name file → ⊥) →
+    Finds (SpellsCommand (codes "build" ∷ rest)) (option_map spelled_build result)
+found_no_build rest (Some b) e none = absurd cc
+found_no_build rest None e none = no_build rest none
+
+-- a slice's pattern with one item at its front
+pub front_one : {A B : Type 0} (f : A → B) (d : A) (xs : List A) → 1 ≤ length xs → map f xs ≡ f (get_or xs 0 d) ∷ map f (take (length xs - 1) (drop 1 xs))
+front_one f d [] le = absurd (omega arith)
+front_one f d (x ∷ xs) le = ap (λ zs. f x ∷ map f zs) (sym (take_all (length (x ∷ xs) - 1) xs (omega arith)))
+
+-- words that begin otherwise spell nothing
+pub no_command : (word : List ℕ) (rest : List (List ℕ)) (command : Command) → (word ≡ codes "build" → ⊥) → SpellsCommand (word ∷ rest) command → ⊥
+no_command word rest (build lin unr name file) other s = other (head_is word (codes "build") rest (words_of s.settings ++ (file ∷ [])) s.are)
+
+-- no words spell nothing
+pub no_words : (command : Command) → SpellsCommand [] command → ⊥
+no_words (build lin unr name file) s = let e = s.are in absurd cc

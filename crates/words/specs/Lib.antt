@@ -1,0 +1,5 @@
+pub mod Files
+pub mod Words
+pub mod Found
+pub mod Reading
+pub mod Commands

@@ -1,0 +1,86 @@
+-- The plain form of the words of the command line: the command, then options in any order, each at most once and as
+-- two words, then files; this project's own. A further command is a case more of each definition below `Command`.
+use Rattle.std.specs.Prelude.{◌≡◌, ℕ, ◌≤◌, List, [], ◌∷◌, ◌++◌, true, if◌then◌else◌, codes, decimal}
+use Rattle.std.specs.List.{list_any, list_all}
+use Rattle.std.specs.Str.{bytes_eq}
+use Rattle.words.specs.Files.{is_plain_name, is_source_file}
+
+-- an option as it is given: its flag and its value, a word each
+pub record Setting : Type 0 where
+  pub flag : List ℕ
+  pub value : List ℕ
+
+-- the words of options: the flag of each, then its value
+abbrev pub words_of : List Setting → List (List ℕ)
+words_of [] = []
+words_of (setting ∷ settings) = setting.flag ∷ setting.value ∷ words_of settings
+
+-- the values that are given for a flag
+abbrev pub values_for : List ℕ → List Setting → List (List ℕ)
+values_for flag [] = []
+values_for flag (setting ∷ settings) =
+    if bytes_eq setting.flag flag then setting.value ∷ values_for flag settings else values_for flag settings
+
+-- each option is one of these
+abbrev pub HaveFlags : List (List ℕ) → List Setting → Type 0
+HaveFlags flags settings = list_all (λ setting. list_any (bytes_eq setting.flag) flags) settings ≡ true
+
+-- a number in decimal digits without leading zeros, in a range
+pub record IsNumber (least greatest : ℕ) (text : List ℕ) (n : ℕ) : Type 0 where
+  pub text_is : text ≡ decimal n
+  pub low : least ≤ n
+  pub high : n ≤ greatest
+
+-- the number of an option that is given once; where it is not given, the default
+abbrev pub GivesNumber : ℕ → ℕ → ℕ → List (List ℕ) → ℕ → Type 0
+GivesNumber least greatest default [] n = n ≡ default
+GivesNumber least greatest default (text ∷ []) n = IsNumber least greatest text n
+GivesNumber least greatest default (text ∷ other ∷ more) n = ⊥
+
+-- the name of an option that is given once, and has to be
+abbrev pub GivesName : List (List ℕ) → List ℕ → Type 0
+GivesName values name = (values ≡ name ∷ []) × (is_plain_name name ≡ true)
+
+-- one command with its options and files
+pub data Command : Type 0 where
+  -- a binary under a name of a file, with so many pages of the linear part and of the unrestricted region
+  build : (lin unr : ℕ) (name file : List ℕ) → Command
+
+-- the first word
+abbrev pub command_word : Command → List ℕ
+command_word (build lin unr name file) = codes "build"
+
+-- the options that a command may have
+abbrev pub flags_of : Command → List (List ℕ)
+flags_of (build lin unr name file) = codes "-o" ∷ codes "--lin" ∷ codes "--unr" ∷ []
+
+-- what its options give
+abbrev pub HasSettings : Command → List Setting → Type 0
+HasSettings (build lin unr name file) settings =
+    GivesNumber 1 512 16 (values_for (codes "--lin") settings) lin
+    × GivesNumber 0 512 16 (values_for (codes "--unr") settings) unr
+    × GivesName (values_for (codes "-o") settings) name
+
+-- the words after the options
+abbrev pub files_of : Command → List (List ℕ)
+files_of (build lin unr name file) = file ∷ []
+
+-- which files a command takes
+abbrev pub HasFiles : Command → Type 0
+HasFiles (build lin unr name file) = is_source_file file ≡ true
+
+-- words of the plain form spell a command
+pub record SpellsCommand (words : List (List ℕ)) (command : Command) : Type 0 where
+  pub settings : List Setting
+  pub are : words ≡ command_word command ∷ (words_of settings ++ files_of command)
+  pub flags : HaveFlags (flags_of command) settings
+  pub given : HasSettings command settings
+  pub files : HasFiles command
+
+-- words spell at most one command
+abbrev pub OneCommand : Type 0
+OneCommand = (words : List (List ℕ)) (a b : Command) → SpellsCommand words a → SpellsCommand words b → a ≡ b
+
+-- words that are not of the plain form
+abbrev pub SpellNothing : List (List ℕ) → Type 0
+SpellNothing words = (command : Command) → SpellsCommand words command → ⊥

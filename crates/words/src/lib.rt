@@ -1,0 +1,69 @@
+//! The words of the command line: the plain form is tested here, and `clap` reads the words that have it.
+#![tactic(auto)]
+
+ghost use Rattle.std.specs.Prelude.{◌≡◌, ◌↔◌, map, string_bytes, IfOk, IfSome, IsTrue};
+ghost use Rattle.std.specs.Option.{option_map};
+ghost use Rattle.words.specs.Words.{SpellsCommand};
+ghost use Rattle.words.specs.Found.{Finds};
+ghost use Rattle.words.specs.Commands.{spelled_command, HasPages};
+
+mod by_clap;
+mod files;
+mod laws;
+mod numbers;
+mod options;
+mod plain;
+#[cfg(test)]
+mod tests;
+
+use by_clap::read_by_clap;
+use clap::error::ErrorKind;
+pub use files::module_name;
+pub use laws::one_command;
+use plain::plain_command;
+use std::alloc::{AllocError, Global};
+
+/// One command with its options and files; this project's own.
+#[derive(Clone, Copy)]
+pub enum Command<'a> {
+    Build(Build<'a>),
+}
+
+/// The command `build`: a binary under `name` of the file `file`, with `lin` pages of the linear part and `unr`
+/// pages of the unrestricted region, of 65,536 bytes each; this project's own.
+#[derive(Clone, Copy)]
+pub struct Build<'a> {
+    pub lin: u32,
+    pub unr: u32,
+    pub name: &'a str,
+    pub file: &'a str,
+}
+
+/// The command that words of the plain form spell, `None` where they are not of it. An error is want of memory
+/// while `clap` read them; this project's own.
+pub fn read_words<'a>(alloc: Global, words: &'a [String]) -> Result<Option<Command<'a>>, AllocError>
+    ensures command { IfOk result (λ command. Finds (SpellsCommand (map string_bytes words.now)) (option_map spelled_command command)) }
+    ensures pages { IfOk result (λ command. IfSome command (λ command. HasPages (spelled_command command))) }
+{
+    let Some(plain) = plain_command(words) else {
+        return Ok(None);
+    };
+    match read_by_clap(alloc, words) {
+        Ok(Some(read)) if is_same(&read, &plain) => Ok(Some(read)),
+        Err(error) if error.kind() == ErrorKind::OutOfMemory => Err(AllocError),
+        _ => Ok(Some(plain)),
+    }
+}
+
+fn is_same(read: &Command<'_>, plain: &Command<'_>) -> bool
+    ensures { IsTrue result ↔ (spelled_command read.now ≡ spelled_command plain.now) }
+{
+    match (*read, *plain) {
+        (Command::Build(read), Command::Build(plain)) => {
+            read.lin == plain.lin
+                && read.unr == plain.unr
+                && read.name == plain.name
+                && read.file == plain.file
+        }
+    }
+}

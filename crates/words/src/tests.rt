@@ -1,0 +1,59 @@
+// What `clap` reads by itself is what the plain form says.
+use crate::by_clap::read_by_clap;
+use crate::{Build, Command, read_words};
+use std::alloc::{AllocError, Global};
+use std::test::Fail;
+
+fn texts(alloc: Global, words: &[&str]) -> Result<Vec<String>, AllocError> {
+    let mut texts = Vec::new(alloc);
+    for word in words {
+        texts.push(String::from_str(alloc, word)?)?;
+    }
+    Ok(texts)
+}
+
+fn is_build(command: Option<Command<'_>>, lin: u32, unr: u32, name: &str, file: &str) -> bool {
+    let Some(Command::Build(build)) = command else {
+        return false;
+    };
+    let Build {
+        lin: a,
+        unr: b,
+        name: c,
+        file: d,
+    } = build;
+    a == lin && b == unr && c == name && d == file
+}
+
+#[test]
+fn clap_reads_plain_words(rt: HostRuntime) -> Result<(), Fail> {
+    let alloc = rt.alloc();
+    let words = texts(
+        alloc,
+        &[
+            "build",
+            "--unr",
+            "0",
+            "-o",
+            "a b.wasm",
+            "--lin",
+            "512",
+            "help.rich",
+        ],
+    )?;
+    let read = read_by_clap(alloc, &words).map_err(|_| "clap has refused plain words")?;
+    assert!(rt; is_build(read, 512, 0, "a b.wasm", "help.rich"));
+    let plain = read_words(alloc, &words)?;
+    assert!(rt; is_build(plain, 512, 0, "a b.wasm", "help.rich"));
+    Ok(())
+}
+
+#[test]
+fn clap_reads_a_file_called_help(rt: HostRuntime) -> Result<(), Fail> {
+    let alloc = rt.alloc();
+    let words = texts(alloc, &["build", "-o", "x.wasm", "help"])?;
+    let read = read_by_clap(alloc, &words).map_err(|_| "clap has refused the words")?;
+    assert!(rt; is_build(read, 16, 16, "x.wasm", "help"));
+    assert!(rt; read_words(alloc, &words)?.is_none());
+    Ok(())
+}
