@@ -1,9 +1,10 @@
 -- What the forms in memory tell, which is everything, and their plans; this project's own.
-use Rattle.std.specs.Prelude.{is_some}
+use Rattle.std.specs.Prelude.{◌≡◌, ℕ, List, is_some}
 use Rattle.std.specs.declared.option.Option.TheVariants.{Some}
 use Rattle.rw_io.specs.declared.mem.MemShelf.{MemShelf}
 use Rattle.rw_io.specs.declared.mem.MemSink.{MemSink}
-use Rattle.rw_io.specs.MemForms.{Plan, named_files, created_last}
+use Rattle.rw_io.specs.Pieces.{Answer}
+use Rattle.rw_io.specs.MemForms.{Plan, named_files, created_last, next_plan}
 use Rattle.rw_io.specs.States.{ShelfState, SinkState}
 
 -- what a shelf in memory tells
@@ -26,3 +27,11 @@ shelf_plan shelf = record { fails = shelf.fails.items; most = shelf.most; calls 
 -- when a sink in memory is to fail, and how much it takes
 abbrev pub sink_plan : MemSink → Plan
 sink_plan sink = record { fails = sink.fails.items; most = sink.most; calls = sink.calls }
+
+-- an append to a shelf in memory counts as one call
+abbrev pub mem_appends : MemShelf → List ℕ → Answer → MemShelf → Type 0
+mem_appends before piece answer after = shelf_plan after ≡ next_plan (shelf_plan before)
+
+-- a put to a sink in memory counts as one call
+abbrev pub mem_puts : MemSink → List ℕ → Answer → MemSink → Type 0
+mem_puts before piece answer after = sink_plan after ≡ next_plan (sink_plan before)

@@ -4,7 +4,12 @@ use Rattle.std.specs.declared.result.Result.{Result}
 use Rattle.std.specs.declared.result.Result.TheVariants.{Ok, Err}
 use Rattle.std.specs.declared.option.Option.{Option}
 use Rattle.std.specs.Option.{option_map}
+use Rattle.rw_io.specs.declared.error.PutError.{PutError}
 use Rattle.rw_io.specs.Files.{NamedFile}
+
+-- what a put or an append answers: how many bytes it took, or an error
+abbrev pub Answer : Type 0
+Answer = Result ℕ PutError
 
 -- how many bytes a call took
 abbrev pub taken : {E : Type 0} → Result ℕ E → ℕ

@@ -1,7 +1,8 @@
 -- A piece that is written whole, or as far as it is taken; this project's own.
-use Rattle.std.specs.Prelude.{ℕ, ⊤}
+use Rattle.std.specs.Prelude.{◌≡◌, ℕ, ◌<◌, List, [], length, drop, ⊤}
 use Rattle.std.specs.declared.result.Result.{Result}
 use Rattle.std.specs.declared.result.Result.TheVariants.{Ok, Err}
+use Rattle.rw_io.specs.Pieces.{Answer, taken}
 use Rattle.rw_io.specs.declared.whole.Unwritten.{Unwritten}
 use Rattle.rw_io.specs.declared.whole.WriteStop.{WriteStop}
 use Rattle.rw_io.specs.declared.whole.WriteStop.TheVariants.{Failed, Stalled, Memory}
@@ -17,3 +18,14 @@ abbrev pub HasCause : WriteStop → ℕ → ℕ → ℕ → ℕ → Type 0
 HasCause Failed faults_before faults stalls_before stalls = Rose faults_before faults
 HasCause Stalled faults_before faults stalls_before stalls = Rose stalls_before stalls
 HasCause Memory faults_before faults stalls_before stalls = ⊤
+
+-- How a piece is offered: all of it in one call, and after a call that took a front of it all of the rest in the next, until
+-- nothing is left or a call took nothing. `calls` says how a call may go: what it is called on, the piece, the answer and
+-- what it leaves. So many bytes are left in the end.
+pub data OffersAll {S : Type 0} (calls : S → List ℕ → Answer → S → Type 0) : S → List ℕ → ℕ → S → Type 0 where
+  -- nothing is left
+  whole : {before after : S} {piece : List ℕ} {left : ℕ} → piece ≡ [] → left ≡ 0 → after ≡ before → OffersAll calls before piece left after
+  -- a call took a front of the piece, and the rest was offered then
+  turn : {before after : S} {piece : List ℕ} {left : ℕ} (count : ℕ) (next : S) → 0 < count → calls before piece (Ok count) next → OffersAll calls next (drop count piece) left after → OffersAll calls before piece left after
+  -- a call took nothing of a piece
+  stopped : {before after : S} {piece : List ℕ} {left : ℕ} (answer : Answer) → taken answer ≡ 0 → calls before piece answer after → left ≡ length piece → 0 < left → OffersAll calls before piece left after

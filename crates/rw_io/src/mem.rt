@@ -145,9 +145,11 @@ impl MemShelf {
 }
 
 impl Shelf for MemShelf {
-    ghost use Rattle.rw_io.specs.MemStates.{shelf_state, shelf_plan};
+    ghost use Rattle.rw_io.specs.MemStates.{shelf_state, shelf_plan, mem_appends};
 
     ghost state = { shelf_state };
+
+    ghost appends = { mem_appends };
 
     fn load(&mut self, alloc: Global, name: &str, limit: u32) -> Result<Vec<u8>, LoadError>
         ensures told { (files : List NamedFile) → (shelf_state self.old).holding.files ≡ Some files → IsLoaded files name.now limit result }
@@ -212,6 +214,7 @@ impl Shelf for MemShelf {
         ensures counts { NoShelfCountFell (shelf_state self.old) (shelf_state self.new) }
         ensures listed { IsErrOf result PutError.Failed ↔ Contains (shelf_plan self.old).fails (shelf_plan self.old).calls }
         ensures next { shelf_plan self.new ≡ next_plan (shelf_plan self.old) }
+        ensures goes { mem_appends self.old piece.now result self.new }
         ensures full { (shelf_state self.old).holding.has_created ≡ true → IfOk result (λ count. count ≡ min (length piece.now) (shelf_plan self.old).most) }
         ensures load_faults { (shelf_state self.new).load_faults ≡ (shelf_state self.old).load_faults }
         ensures put_faults { (shelf_state self.new).put_faults ≡ faults_after result (shelf_state self.old).put_faults }
@@ -258,9 +261,11 @@ impl MemSink {
 }
 
 impl Sink for MemSink {
-    ghost use Rattle.rw_io.specs.MemStates.{sink_state, sink_plan};
+    ghost use Rattle.rw_io.specs.MemStates.{sink_state, sink_plan, mem_puts};
 
     ghost state = { sink_state };
+
+    ghost puts = { mem_puts };
 
     fn put(&mut self, piece: &[u8]) -> Result<usize, PutError>
         ensures bound { IfOk result (λ count. count ≤ length piece.now) }
@@ -270,6 +275,7 @@ impl Sink for MemSink {
         ensures counts { NoSinkCountFell (sink_state self.old) (sink_state self.new) }
         ensures listed { IsErrOf result PutError.Failed ↔ Contains (sink_plan self.old).fails (sink_plan self.old).calls }
         ensures next { sink_plan self.new ≡ next_plan (sink_plan self.old) }
+        ensures goes { mem_puts self.old piece.now result self.new }
         ensures full { IfOk result (λ count. count ≡ min (length piece.now) (sink_plan self.old).most) }
         ensures faults { (sink_state self.new).faults ≡ faults_after result (sink_state self.old).faults }
         ensures stalls { (sink_state self.new).stalls ≡ stalls_after_put result piece.now (sink_state self.old).stalls }

@@ -1,5 +1,5 @@
 // The shelf over the system's files and a sink over any writer: the trusted edge. They tell no contents.
-ghost use Rattle.std.specs.Prelude.{None, is_some};
+ghost use Rattle.std.specs.Prelude.{None, ⊤, is_some};
 ghost use Rattle.rw_io.specs.States.{ShelfState, SinkState};
 
 use crate::{LoadError, PutError, Shelf, Sink};
@@ -56,6 +56,8 @@ impl<R: Files + Drop> Shelf for OsShelf<R> {
       put_faults = shelf.put_faults;
       stalls = shelf.stalls;
     } };
+
+    ghost appends = { λ _ _ _ _. ⊤ };
 
     fn load(&mut self, alloc: Global, name: &str, limit: u32) -> Result<Vec<u8>, LoadError> {
         match read_front(&self.rt, alloc, name, limit) {
@@ -122,6 +124,8 @@ impl<W: Write + Drop> OsSink<W> {
 
 impl<W: Write + Drop> Sink for OsSink<W> {
     ghost state = { λ sink. record { bytes = None; faults = sink.faults; stalls = sink.stalls } };
+
+    ghost puts = { λ _ _ _ _. ⊤ };
 
     fn put(&mut self, piece: &[u8]) -> Result<usize, PutError> {
         match self.writer.write(piece) {

@@ -1,8 +1,8 @@
 // A shelf of files: some are loaded whole, and one is created and appended to.
-ghost use Rattle.std.specs.Prelude.{◌≡◌, ◌≢◌, ◌≤◌, List, [], false, true, length, take, IfOk, OnOk, OnErr, IsErrOf, Ok, Some};
+ghost use Rattle.std.specs.Prelude.{◌≡◌, ◌≢◌, ◌≤◌, ℕ, List, [], false, true, length, take, IfOk, OnOk, OnErr, IsErrOf, Ok, Some};
 ghost use Rattle.rw_io.specs.Counts.{Rose};
 ghost use Rattle.rw_io.specs.Files.{NamedFile};
-ghost use Rattle.rw_io.specs.Pieces.{taken};
+ghost use Rattle.rw_io.specs.Pieces.{Answer, taken};
 ghost use Rattle.rw_io.specs.States.{ShelfState, NoShelfCountFell, IsLoaded, begun, appended};
 
 use crate::{LoadError, PutError};
@@ -28,6 +28,9 @@ pub trait Shelf {
         ensures failed { IsErrOf result PutError.Failed → Rose (state self.old).put_faults (state self.new).put_faults }
         ensures counts { NoShelfCountFell (state self.old) (state self.new) };
 
+    /// How an append may go: on what, with which piece, to which answer, and what it leaves.
+    ghost appends: { Self → List ℕ → Answer → Self → Type 0 };
+
     /// Puts the front of a piece behind what was created, and answers how many bytes it took.
     /// An error takes none, and where nothing was created none is taken either, which is no stall.
     fn append(&mut self, piece: &[u8]) -> Result<usize, PutError>
@@ -38,5 +41,6 @@ pub trait Shelf {
         ensures stalled { result ≡ Ok 0 → (state self.old).holding.has_created ≡ true → piece.now ≢ []
             → Rose (state self.old).stalls (state self.new).stalls }
         ensures failed { IsErrOf result PutError.Failed → Rose (state self.old).put_faults (state self.new).put_faults }
-        ensures counts { NoShelfCountFell (state self.old) (state self.new) };
+        ensures counts { NoShelfCountFell (state self.old) (state self.new) }
+        ensures goes { appends self.old piece.now result self.new };
 }

@@ -2,7 +2,7 @@
 ghost use Rattle.std.specs.Prelude.{◌≡◌, ◌≤◌, ◌<◌, ◌-◌, true, length, take, IfErr};
 ghost use Rattle.std.specs.Io.KnownBytes.{append_known};
 ghost use Rattle.rw_io.specs.States.{NoShelfCountFell, NoSinkCountFell, appended};
-ghost use Rattle.rw_io.specs.Whole.{left_of, HasCause};
+ghost use Rattle.rw_io.specs.Whole.{left_of, HasCause, OffersAll};
 
 use crate::{PutError, Shelf, Sink};
 use thiserror::Error;
@@ -55,11 +55,12 @@ impl Unwritten {
     }
 }
 
-/// Puts a piece whole: at each turn at least one byte is taken, or it ends.
+/// Puts a piece whole: it is offered as one piece, and then its rest, until a turn takes nothing of it.
 /// An error says why, and how many bytes at the end of the piece were not put.
 pub fn put_whole<O: Sink>(out: &mut O, piece: &[u8]) -> Result<(), Unwritten>
     ensures left { left_of result ≤ length piece.now }
     ensures not_done { IfErr result (λ unwritten. 0 < unwritten.left) }
+    ensures pieces { OffersAll O.puts out.old piece.now (left_of result) out.new }
     ensures put { (O.state out.new).bytes ≡ append_known (O.state out.old).bytes (take (length piece.now - left_of result) piece.now) }
     ensures cause { IfErr result (λ unwritten. HasCause unwritten.stop (O.state out.old).faults (O.state out.new).faults
         (O.state out.old).stalls (O.state out.new).stalls) }
@@ -77,12 +78,14 @@ pub fn put_whole<O: Sink>(out: &mut O, piece: &[u8]) -> Result<(), Unwritten>
     Ok(())
 }
 
-/// Appends a piece whole to what was created: at each turn at least one byte is taken, or it ends.
+/// Appends a piece whole to what was created: it is offered as one piece, and then its rest, until a turn takes
+/// nothing of it.
 /// An error says why, and how many bytes at the end of the piece were not appended.
 pub fn append_whole<S: Shelf>(shelf: &mut S, piece: &[u8]) -> Result<(), Unwritten>
     requires { (S.state shelf.old).holding.has_created ≡ true }
     ensures left { left_of result ≤ length piece.now }
     ensures not_done { IfErr result (λ unwritten. 0 < unwritten.left) }
+    ensures pieces { OffersAll S.appends shelf.old piece.now (left_of result) shelf.new }
     ensures appended { (S.state shelf.new).holding ≡ appended (take (length piece.now - left_of result) piece.now) (S.state shelf.old).holding }
     ensures cause { IfErr result (λ unwritten. HasCause unwritten.stop (S.state shelf.old).put_faults (S.state shelf.new).put_faults
         (S.state shelf.old).stalls (S.state shelf.new).stalls) }

@@ -1,10 +1,26 @@
-use Rattle.std.proofs.Common.{arith}
+use Rattle.std.proofs.Common.{ℕ, arith, refl, sym, subst, Ok, Err}
+use Rattle.rw_io.specs.Whole.{OffersAll}
 use Rattle.rw_io.proofs.Joined.{next_known}
+use Rattle.rw_io.proofs.Offered.{after_turn, at_stop, at_end}
 use Rattle.rw_io.proofs.whole.put_whole.Goals as goal
 
 pub loop-at-preserved : goal.loop-at-preserved
 loop-at-preserved g c = record {
   at = omega (arith, c.in-Ok.ensures.bound);
   put = next_known _ _ _ _ _ _ c.loop-at.invariant.put c.in-Ok.ensures.appended;
+  pieces = after_turn g.O.Sink.puts c.args.out.now c.loop-at.out c.put.new.self c.args.piece.now c.loop-at.at c.in-Ok.count (omega (arith, c.in-Ok.count-test)) c.in-Ok.ensures.goes c.loop-at.invariant.pieces;
   counts = record { puts = omega arith; stalled = omega arith };
 }
+
+pub returns-in-Ok-eq0-clause-pieces : goal.returns-in-Ok-eq0-clause-pieces
+returns-in-Ok-eq0-clause-pieces g c =
+    subst (λ (left : ℕ). OffersAll g.O.Sink.puts c.args.out.now c.args.piece.now left c.put.new.self) (sym c.stalled.ensures.left)
+    (at_stop g.O.Sink.puts c.args.out.now c.loop-at.out c.put.new.self c.args.piece.now c.loop-at.at (Ok c.in-Ok-eq0.field-0) c.loop-at-test.true c.in-Ok-eq0.field-0-test c.in-Ok-eq0.ensures.goes c.loop-at.invariant.pieces)
+
+pub returns-in-Err-clause-pieces : goal.returns-in-Err-clause-pieces
+returns-in-Err-clause-pieces g c =
+    subst (λ (left : ℕ). OffersAll g.O.Sink.puts c.args.out.now c.args.piece.now left c.put.new.self) (sym c.failed.ensures.left)
+    (at_stop g.O.Sink.puts c.args.out.now c.loop-at.out c.put.new.self c.args.piece.now c.loop-at.at (Err c.in-Err.error) c.loop-at-test.true refl c.in-Err.ensures.goes c.loop-at.invariant.pieces)
+
+pub returns-clause-pieces : goal.returns-clause-pieces
+returns-clause-pieces g c = at_end g.O.Sink.puts c.args.out.now c.loop-at.out c.args.piece.now c.loop-at.at c.loop-at-test.false c.loop-at.invariant.pieces
