@@ -5,6 +5,7 @@ use Rattle.wasm_ast.specs.declared.instructions.WInstr.{WInstr, roll-WInstr}
 use Rattle.wasm_ast.specs.declared.instructions.WInstr.TheOpen.{WInstr-F}
 use Rattle.wasm_ast.specs.Immediates.{Immediate, Bare, Index, Labels, IndexZero, Zero, MemArg, Const32, Const64, Body, Bodies}
 use Rattle.wasm_ast.specs.ByOpcode.{instruction_at, look_up, bare_instructions, index_instructions, label_instructions, index_zero_instructions, zero_instructions, memory_instructions, const32_instructions, const64_instructions}
+use Rattle.wasm_grammar.specs.Nesting.{nesting_limit}
 use Rattle.wasm_reading.specs.declared.fault.DecodeFault.{DecodeFault}
 use Rattle.wasm_reading.specs.declared.fault.DecodeFault.TheVariants.{BadTag, FloatOutside, LimitOutside}
 use Rattle.wasm_reading.specs.declared.kinds.ImmediateKind.{ImmediateKind}
@@ -97,7 +98,7 @@ if_at place first second = do
 abbrev pub instruction_from : (Bool → ℕ → Reader Listed) → ℕ → ℕ → ℕ → Reader WInstr
 instruction_from list depth place opcode =
     if is_from_to 0x02 0x04 opcode then
-    (if nat_le 1000 depth then fail LimitOutside place
+    (if nat_le nesting_limit depth then fail LimitOutside place
     else (if opcode == 0x04 then if_at place (list true (depth + 1)) (list false (depth + 1))
     else nested_at place opcode (list false (depth + 1))))
     else plain_at place opcode (kind_of opcode)

@@ -12,6 +12,8 @@ use Rattle.wasm_ast.specs.declared.modules.DataSeg.{DataSeg}
 use Rattle.wasm_ast.specs.declared.modules.Code.{Code}
 use Rattle.wasm_ast.specs.declared.modules.LocalRun.{LocalRun}
 use Rattle.wasm_ast.specs.declared.modules.WModule.{WModule}
+use Rattle.wasm_grammar.specs.CanonicalModules.{preamble}
+use Rattle.wasm_grammar.specs.Profile.{local_limit}
 use Rattle.wasm_reading.specs.declared.fault.DecodeError.{DecodeError}
 use Rattle.wasm_reading.specs.declared.fault.DecodeFault.{DecodeFault}
 use Rattle.wasm_reading.specs.declared.fault.DecodeFault.TheVariants.{BadMagic, BadVersion, BadTag, BadOrder, CountMismatch, LimitOutside}
@@ -83,7 +85,7 @@ local_runs_at before zero = give []
 local_runs_at before (suc n) = do
   place ← here
   count ← u32_at
-  t ← (if nat_lt 50000 (before + count) then fail LimitOutside place else tag_at value_type_of)
+  t ← (if nat_lt local_limit (before + count) then fail LimitOutside place else tag_at value_type_of)
   runs ← local_runs_at (before + count) n
   give (record { count = count; ty = t } ∷ runs)
 
@@ -182,7 +184,7 @@ preamble_at k (wanted ∷ bytes) = do
 -- a module: the magic number and the version, and its sections
 abbrev pub module_at : Reader WModule
 module_at = do
-  _ ← preamble_at 0 (0x00 ∷ 0x61 ∷ 0x73 ∷ 0x6D ∷ 0x01 ∷ 0x00 ∷ 0x00 ∷ 0x00 ∷ [])
+  _ ← preamble_at 0 preamble
   λ input. sections_at (length input.rest) 0 empty_module input
 
 -- what was read, without the input behind it

@@ -4,6 +4,7 @@ use Rattle.wasm_ast.specs.declared.types.ValTy.{ValTy}
 use Rattle.wasm_ast.specs.declared.types.ValTy.TheVariants.{I32, I64}
 use Rattle.wasm_ast.specs.declared.types.FuncType.{FuncType}
 use Rattle.wasm_ast.specs.declared.types.Limits.{Limits}
+use Rattle.wasm_grammar.specs.Profile.{page_limit, entry_limit}
 use Rattle.wasm_reading.specs.declared.fault.DecodeFault.{DecodeFault}
 use Rattle.wasm_reading.specs.declared.fault.DecodeFault.TheVariants.{BadTag, FloatOutside, LimitOutside}
 use Rattle.wasm_reading.specs.Readers.{Reader, ◌>>=◌, give, fail, here}
@@ -66,12 +67,12 @@ limits_at most = do
   maximum ← maximum_at has_maximum
   give (record { min = minimum; max = maximum })
 
--- the most pages that a memory has at first
+-- a memory type: limits of its pages
 abbrev pub memory_at : Reader Limits
-memory_at = limits_at 1024
+memory_at = limits_at page_limit
 
 -- a table type: functions, and limits
 abbrev pub table_at : Reader Limits
 table_at = do
   _ ← tag_at (only 0x70)
-  limits_at 100000
+  limits_at entry_limit

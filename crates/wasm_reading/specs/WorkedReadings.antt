@@ -1,12 +1,13 @@
 -- Byte lists that are written out, and what reading them gives; this project's own rows.
-use Rattle.std.specs.Prelude.{◌≡◌, ℕ, List, [], ◌∷◌, Ok, Err}
+use Rattle.std.specs.Prelude.{◌≡◌, ℕ, List, [], ◌∷◌, ◌++◌, Ok, Err}
+use Rattle.wasm_grammar.specs.CanonicalModules.{preamble}
 use Rattle.wasm_reading.specs.declared.fault.DecodeFault.{DecodeFault}
 use Rattle.wasm_reading.specs.declared.fault.DecodeFault.TheVariants.{Truncated, BadLeb, BadOrder, BadLength, FloatOutside, LimitOutside}
 use Rattle.wasm_reading.specs.ReadModules.{reading_of, empty_module}
 
 -- the magic number and the version, and bytes behind them
 abbrev pub behind_preamble : List ℕ → List ℕ
-behind_preamble bytes = 0x00 ∷ 0x61 ∷ 0x73 ∷ 0x6D ∷ 0x01 ∷ 0x00 ∷ 0x00 ∷ 0x00 ∷ bytes
+behind_preamble bytes = preamble ++ bytes
 
 -- bytes behind the preamble have this first fault at this place
 abbrev pub HasFault : List ℕ → ℕ → DecodeFault → Type 0
