@@ -7,7 +7,7 @@ use Rattle.std.proofs.lemmas.List.Elements.{All-nil, All-cons, All-head, All-tai
 use Rattle.std.proofs.lemmas.Str.{IsUtf8-from_is_utf8, is_utf8-from_IsUtf8}
 use Rattle.wasm_leb.specs.Leb.{IsUnsignedEnd}
 use Rattle.wasm_leb.proofs.Spelled.{below, unsigned_below}
-use Rattle.wasm_grammar.specs.ProfileInstructions.{IsShortListOf}
+use Rattle.wasm_grammar.specs.ProfileInstructions.{FitsU32, IsShortListOf}
 use Rattle.wasm_grammar.specs.Profile.{NameFits}
 use Rattle.wasm_grammar.specs.GrammarValues.{Joined, ◌followed_by◌, IsExactly, IsByte, IsRaw, IsUnsigned, IsEach, IsVector, IsByteVector, IsName, IsSized}
 use Rattle.wasm_reading.specs.declared.fault.DecodeError.{DecodeError}
@@ -84,6 +84,14 @@ fitting_vector {Fits = Fits} {Entry = Entry} k =
     (λ xs bytes p.
     let q = p.1 in
     record { front = q.front; back = q.back; first = q.first; second = each_together Fits Entry xs q.back p.0.each q.second; whole = q.whole })
+
+-- a number of 32 bits, and that it is one
+pub fitting_u32 : Exact u32_at (λ n bytes. FitsU32 n × IsUnsigned n bytes)
+fitting_u32 = alike u32 (λ n bytes p. (unsigned_fits n bytes p, p)) (λ n bytes p. p.1)
+
+-- a vector of indices
+pub indices : Exact (vector_at u32_at) (λ ns bytes. IsShortListOf FitsU32 ns × IsVector IsUnsigned ns bytes)
+indices = fitting_vector fitting_u32
 
 each_byte : (xs bytes : List ℕ) → IsEach IsByte xs bytes → bytes ≡ xs
 each_byte [] bytes p = p

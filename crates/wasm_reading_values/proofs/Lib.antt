@@ -3,3 +3,4 @@ pub mod ExactNumbers
 pub mod ExactLists
 pub mod ExactTables
 pub mod ExactTypes
+pub mod ExactEntries
