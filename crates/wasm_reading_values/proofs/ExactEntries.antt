@@ -12,15 +12,13 @@ use Rattle.wasm_ast.specs.declared.modules.WGlobal.{WGlobal}
 use Rattle.wasm_ast.specs.declared.modules.ElemSeg.{ElemSeg}
 use Rattle.wasm_ast.specs.declared.modules.DataSeg.{DataSeg}
 use Rattle.wasm_grammar.specs.Tags.{mutability, export_kind}
-use Rattle.wasm_grammar.specs.ProfileInstructions.{ConstantFits}
-use Rattle.wasm_grammar.specs.Profile.{page_limit, entry_limit, LimitsFit, ImportKindFits, ImportFits, GlobalFits, ExportFits, ElementFits, SegmentFits}
+use Rattle.wasm_grammar.specs.Profile.{page_limit, entry_limit, LimitsFit, ImportKindFits}
 use Rattle.wasm_grammar.specs.GrammarValues.{Joined, ◌followed_by◌, IsByte, IsUnsigned, IsName}
 use Rattle.wasm_grammar.specs.GrammarTypes.{IsValueType, IsLimits, IsTableType, IsGlobalType}
-use Rattle.wasm_grammar.specs.GrammarInstructions.{IsConstantExpression}
-use Rattle.wasm_grammar.specs.GrammarModules.{IsImportKind, IsImport, IsGlobal, IsExport, IsElement, IsSegment}
-use Rattle.wasm_reading.specs.ReadInstructions.{constant_at}
-use Rattle.wasm_reading.specs.ReadModules.{import_kind_at, import_at, global_at, export_at, element_at, segment_at}
+use Rattle.wasm_grammar.specs.GrammarModules.{IsImportKind}
+use Rattle.wasm_reading.specs.ReadModules.{import_kind_at, import_at}
 use Rattle.wasm_reading_values.specs.Exactness.{Exact}
+use Rattle.wasm_reading_values.specs.EntriesRead.{ConstantsReadExactly, ImportsReadExactly, ExportsReadExactly, GlobalsReadExactly, ElementsReadExactly, SegmentsReadExactly}
 use Rattle.wasm_reading_values.proofs.Compose.{from_left, from_right, alike, followed, made, field, last_field, fields}
 use Rattle.wasm_reading_values.proofs.ExactNumbers.{u32}
 use Rattle.wasm_reading_values.proofs.ExactLists.{unsigned_fits, fitting_u32, indices, fitting_byte_vector, name, name_fits}
@@ -118,7 +116,7 @@ import_by_parts =
     (λ i bytes p. ((p.0.0.0.1, p.0.0.1), (p.0.1, p.1)))))))
 
 -- an import
-pub import_entry : Exact import_at (λ i bytes. ImportFits i × IsImport i bytes)
+pub import_entry : ImportsReadExactly
 import_entry =
     alike import_by_parts
     (λ i bytes p.
@@ -135,7 +133,7 @@ import_entry =
     record { front = p.1.front; back = p.1.back; first = p.1.first; second = record { front = q.front; back = q.back; first = q.first; second = kind; whole = q.whole }; whole = p.1.whole })
 
 -- an export
-pub export_entry : Exact export_at (λ e bytes. ExportFits e × IsExport e bytes)
+pub export_entry : ExportsReadExactly
 export_entry =
     alike (fields (field (λ (e : Export). e.name) _ (λ e. Unit {0}) _ name (λ n.
     field (λ (e : Export). e.kind) _ (λ e. Unit {0} × (e.name ≡ n)) _ external_kind_byte (λ kind.
@@ -143,10 +141,6 @@ export_entry =
     (λ e h. λ i. record { name = h.0.1 i; kind = h.1 i; index = e.index })))))
     (λ e bytes p. ((name_fits e.name p.front p.first, unsigned_fits e.index p.second.back p.second.second), p))
     (λ e bytes p. p.1)
-
--- constant expressions are read exactly, those of the profile
-abbrev pub ConstantsReadExactly : Type 0
-ConstantsReadExactly = Exact constant_at (λ w bytes. ConstantFits w × IsConstantExpression w bytes)
 
 -- three productions with something that holds of each value, and the three facts apart
 apart_three : {F G H : Type 0} {P Q R : List ℕ → Type 0} {bytes : List ℕ} → Joined (λ front. F × P front) (Joined (λ front. G × Q front) (λ back. H × R back)) bytes → (F × G × H) × Joined P (Joined Q R) bytes
@@ -160,7 +154,7 @@ together_three f g h p =
     record { front = p.front; back = p.back; first = (f, p.first); second = record { front = q.front; back = q.back; first = (g, q.first); second = (h, q.second); whole = q.whole }; whole = p.whole }
 
 -- a global
-pub global_entry : ConstantsReadExactly → Exact global_at (λ g bytes. GlobalFits g × IsGlobal g bytes)
+pub global_entry : ConstantsReadExactly → GlobalsReadExactly
 global_entry constant =
     alike (fields (field (λ (g : WGlobal). g.ty) _ (λ g. Unit {0}) _ value_type_byte (λ t.
     field (λ (g : WGlobal). g.mutable) _ (λ g. Unit {0} × (g.ty ≡ t)) _ flag_byte (λ mutable.
@@ -175,7 +169,7 @@ global_entry constant =
     record { front = q.front; back = q.back; first = q.first; second = record { front = r.front; back = r.back; first = r.first; second = (p.0, r.second); whole = r.whole }; whole = q.whole })
 
 -- an element segment
-pub element_entry : ConstantsReadExactly → Exact element_at (λ s bytes. ElementFits s × IsElement s bytes)
+pub element_entry : ConstantsReadExactly → ElementsReadExactly
 element_entry constant =
     alike (fields (field (λ (s : ElemSeg). s.table) _ (λ s. Unit {0}) _ fitting_u32 (λ table.
     field (λ (s : ElemSeg). s.offset) _ (λ s. Unit {0} × (s.table ≡ table)) _ constant (λ offset.
@@ -185,7 +179,7 @@ element_entry constant =
     (λ s bytes p. together_three p.0.0 p.0.1 p.0.2 p.1)
 
 -- a data segment
-pub segment_entry : ConstantsReadExactly → Exact segment_at (λ s bytes. SegmentFits s × IsSegment s bytes)
+pub segment_entry : ConstantsReadExactly → SegmentsReadExactly
 segment_entry constant =
     alike (fields (field (λ (s : DataSeg). s.memory) _ (λ s. Unit {0}) _ fitting_u32 (λ memory.
     field (λ (s : DataSeg). s.offset) _ (λ s. Unit {0} × (s.memory ≡ memory)) _ constant (λ offset.

@@ -74,6 +74,11 @@ each_together Fits Entry (x ∷ xs) bytes h p = record {
   whole = p.whole;
 }
 
+-- what holds of each entry, where its bytes say so
+pub each_fits : {X : Type 0} (Fits : X → Type 0) (Entry : X → List ℕ → Type 0) → ((x : X) (bytes : List ℕ) → Entry x bytes → Fits x) → (xs : List X) (bytes : List ℕ) → IsEach Entry xs bytes → All Fits xs
+each_fits Fits Entry fits [] bytes p = All-nil Fits
+each_fits Fits Entry fits (x ∷ xs) bytes p = All-cons Fits x xs (fits x p.front p.first) (each_fits Fits Entry fits xs p.back p.second)
+
 -- a vector of entries of which something holds
 pub fitting_vector : {X : Type 0} {item : Reader X} {Fits : X → Type 0} {Entry : X → List ℕ → Type 0} → Exact item (λ x bytes. Fits x × Entry x bytes) → Exact (vector_at item) (λ xs bytes. IsShortListOf Fits xs × IsVector Entry xs bytes)
 fitting_vector {Fits = Fits} {Entry = Entry} k =

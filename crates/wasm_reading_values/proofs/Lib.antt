@@ -4,3 +4,4 @@ pub mod ExactLists
 pub mod ExactTables
 pub mod ExactTypes
 pub mod ExactEntries
+pub mod ExactCodes
