@@ -124,13 +124,13 @@ room_behind : (room : Option ℕ) (front back : List ℕ) → HasRoom room (fron
 room_behind None front back h = tt
 room_behind (Some most) front back h = omega (arith, length-append front back)
 
--- one reader behind another: the bytes of the first value, and then those of the second, which may have another room
-pub followed_in : {room : Option ℕ} (less : Option ℕ) {A B : Type 0} {first : Reader A} {First : A → List ℕ → Type 0} (next : A → Reader B) (Next : A → B → List ℕ → Type 0) → ((a : A) (front back : List ℕ) → First a front → HasRoom room (front ++ back) → HasRoom less back) → ExactIn room first First → ((a : A) → ExactIn less (next a) (Next a)) → ExactIn room (first >>= next) (λ b bytes. (a : A) × Joined (First a) (Next a b) bytes)
-followed_in {room} less {first = first} {First = First} next Next smaller k l = record {
+-- one reader behind another, which may have another room, and of which exactness is owed where the first value is spelled
+pub followed_where : {room : Option ℕ} (less : Option ℕ) {A B : Type 0} {first : Reader A} {First : A → List ℕ → Type 0} (next : A → Reader B) (Next : A → B → List ℕ → Type 0) → ((a : A) (front back : List ℕ) → First a front → HasRoom room (front ++ back) → HasRoom less back) → ExactIn room first First → ((a : A) (front : List ℕ) → First a front → ExactIn less (next a) (Next a)) → ExactIn room (first >>= next) (λ b bytes. (a : A) × Joined (First a) (Next a b) bytes)
+followed_where {room} less {first = first} {First = First} next Next smaller k l = record {
   sound = λ input behind b h e.
       let r = from_and_then (first input) next b behind e in
       let s = k.sound input r.1 r.0 h r.2 in
-      let t = (l r.0).sound r.1 behind b (behind_took s h) r.3 in
+      let t = (l r.0 s.front s.holds).sound r.1 behind b (behind_took s h) r.3 in
       took_so (took_joined s t) (λ bytes p. (r.0, p));
   complete = λ input behind b t h space.
       let a = t.holds.0 in
@@ -140,8 +140,12 @@ followed_in {room} less {first = first} {First = First} next Next smaller k l = 
       let v = second_took u in
       let early : IsBy input.end middle.at = by_earlier input.end middle.at behind.at (omega (arith, v.place)) (subst (λ (end : Option ℕ). IsBy end behind.at) t.same_end h) in
       let left = smaller a s.front middle.rest s.holds (subst (λ (bytes : List ℕ). HasRoom room bytes) s.whole space) in
-      ap (λ r. and_then r next) (k.complete input middle a s early space) ∙ (l a).complete middle behind b v h left;
+      ap (λ r. and_then r next) (k.complete input middle a s early space) ∙ (l a s.front s.holds).complete middle behind b v h left;
 }
+
+-- the same, owed of each first value
+pub followed_in : {room : Option ℕ} (less : Option ℕ) {A B : Type 0} {first : Reader A} {First : A → List ℕ → Type 0} (next : A → Reader B) (Next : A → B → List ℕ → Type 0) → ((a : A) (front back : List ℕ) → First a front → HasRoom room (front ++ back) → HasRoom less back) → ExactIn room first First → ((a : A) → ExactIn less (next a) (Next a)) → ExactIn room (first >>= next) (λ b bytes. (a : A) × Joined (First a) (Next a b) bytes)
+followed_in less next Next smaller k l = followed_where less next Next smaller k (λ a front p. l a)
 
 -- one reader behind another: the bytes of the first value, and then those of the second
 pub followed : {room : Option ℕ} {A B : Type 0} {first : Reader A} {First : A → List ℕ → Type 0} (next : A → Reader B) (Next : A → B → List ℕ → Type 0) → ExactIn room first First → ((a : A) → ExactIn room (next a) (Next a)) → ExactIn room (first >>= next) (λ b bytes. (a : A) × Joined (First a) (Next a b) bytes)
@@ -172,10 +176,11 @@ made {P = P} make k =
     (p.0, p.1.second.0, subst (λ (xs : List ℕ). P p.0 xs) (sym all) p.1.first))
     (λ b bytes p. (p.0, record { front = bytes; back = []; first = p.2; second = (p.1, refl); whole = sym (append-nil bytes) }))
 
--- a field of a value, and what is read of it behind; of the fields before it is known what was read
-pub field : {room : Option ℕ} {A B : Type 0} {first : Reader A} {First : A → List ℕ → Type 0} (of : B → A) (next : A → Reader B) (Known : B → Type 0) (Next : B → List ℕ → Type 0) → ExactIn room first First → ((a : A) → ExactIn room (next a) (λ b bytes. (Known b × (of b ≡ a)) × Next b bytes)) → ExactIn room (first >>= next) (λ b bytes. Known b × Joined (First (of b)) (Next b) bytes)
-field {First = First} of next Known Next k l =
-    alike (followed next (λ a b bytes. (Known b × (of b ≡ a)) × Next b bytes) k l)
+-- a field of a value, and what is read of it behind, which is owed where the field is spelled; of the fields before it
+-- is known what was read
+pub field_where : {room : Option ℕ} {A B : Type 0} {first : Reader A} {First : A → List ℕ → Type 0} (of : B → A) (next : A → Reader B) (Known : B → Type 0) (Next : B → List ℕ → Type 0) → ExactIn room first First → ((a : A) (front : List ℕ) → First a front → ExactIn room (next a) (λ b bytes. (Known b × (of b ≡ a)) × Next b bytes)) → ExactIn room (first >>= next) (λ b bytes. Known b × Joined (First (of b)) (Next b) bytes)
+field_where {room} {First = First} of next Known Next k l =
+    alike (followed_where room next (λ a b bytes. (Known b × (of b ≡ a)) × Next b bytes) (λ a front back p h. room_behind room front back h) k l)
     (λ b bytes p.
     let q = p.1 in
     let first = subst (λ a. First a q.front) (sym q.second.0.1) q.first in
@@ -183,6 +188,10 @@ field {First = First} of next Known Next k l =
     (λ b bytes p.
     let q = p.1 in
     (of b, record { front = q.front; back = q.back; first = q.first; second = ((p.0, refl), q.second); whole = q.whole }))
+
+-- the same, owed of each value of the field
+pub field : {room : Option ℕ} {A B : Type 0} {first : Reader A} {First : A → List ℕ → Type 0} (of : B → A) (next : A → Reader B) (Known : B → Type 0) (Next : B → List ℕ → Type 0) → ExactIn room first First → ((a : A) → ExactIn room (next a) (λ b bytes. (Known b × (of b ≡ a)) × Next b bytes)) → ExactIn room (first >>= next) (λ b bytes. Known b × Joined (First (of b)) (Next b) bytes)
+field of next Known Next k l = field_where of next Known Next k (λ a front p. l a)
 
 -- the last field of a value
 pub last_field : {room : Option ℕ} {A B : Type 0} {first : Reader A} {First : A → List ℕ → Type 0} (of : B → A) (make : A → B) (Known : B → Type 0) → ExactIn room first First → ((a : A) → Known (make a) × (of (make a) ≡ a)) → ((b : B) → Known b → b ≡ make (of b)) → ExactIn room (first >>= λ a. give (make a)) (λ b bytes. Known b × First (of b) bytes)

@@ -1,3 +1,5 @@
 pub mod Compose
 pub mod ExactNumbers
 pub mod ExactLists
+pub mod ExactTables
+pub mod ExactTypes
