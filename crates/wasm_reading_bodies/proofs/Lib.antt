@@ -1,0 +1,4 @@
+pub mod OpcodeKinds
+pub mod ByTables
+pub mod ExactImmediates
+pub mod ExactPlain
