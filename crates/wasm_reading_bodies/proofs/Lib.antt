@@ -2,3 +2,5 @@ pub mod OpcodeKinds
 pub mod ByTables
 pub mod ExactImmediates
 pub mod ExactPlain
+pub mod Spelled
+pub mod ExactBlocks

@@ -78,6 +78,14 @@ opcode_kind w = kind_found (out-WInstr w)
 pub opcode_nests : (w : WInstr) → is_from_to 0x02 0x04 (opcode_of w) ≡ nests (immediate_of w)
 opcode_nests w = nests_found (out-WInstr w)
 
+-- two lists stand behind the opcode of an if alone
+pub else_opcode : (w : WInstr) → has_else (immediate_of w) ≡ true → (opcode_of w == 0x04) ≡ true
+else_opcode w e = both (has_else (immediate_of w)) (opcode_of w == 0x04) (else_found (out-WInstr w)) e
+  where
+    both : (a b : Bool) → (a && b) ≡ a → a ≡ true → b ≡ true
+    both true b h e = h
+    both false b h e = absurd (cc)
+
 -- an instruction that may stand in a constant expression
 pub constant_kind : (w : WInstr) → IsConstant w → constant_kind_of (opcode_of w) ≡ kind_in (immediate_of w)
 constant_kind w h = constant_found (out-WInstr w) h
