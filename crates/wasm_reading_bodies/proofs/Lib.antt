@@ -1,0 +1,6 @@
+pub mod OpcodeKinds
+pub mod ByTables
+pub mod ExactImmediates
+pub mod ExactPlain
+pub mod Spelled
+pub mod ExactBlocks
