@@ -40,7 +40,7 @@ abbrev pub IsBehind : ℕ → ℕ → WInstr → List ℕ → Type 0
 IsBehind depth opcode w bytes = (nesting w ≤ nesting_limit - depth) × IsInstruction w (opcode ∷ bytes)
 
 -- where no `else` may stand, the end does
-only_end : (stop : Bool) (bytes : List ℕ) → IsCloser false stop bytes → bytes ≡ 0x0B ∷ []
+pub only_end : (stop : Bool) (bytes : List ℕ) → IsCloser false stop bytes → bytes ≡ 0x0B ∷ []
 only_end false bytes p = p
 only_end true bytes p = absurd p
 

@@ -4,3 +4,4 @@ pub mod ExactImmediates
 pub mod ExactPlain
 pub mod Spelled
 pub mod ExactBlocks
+pub mod ExactBodies
