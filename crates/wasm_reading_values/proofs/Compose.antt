@@ -234,3 +234,16 @@ fail_if test a fault place Good gives fails =
 -- no value is read, and none is spelled
 pub never : {room : Option ℕ} {A : Type 0} (fault : DecodeFault) (place : ℕ) → ExactIn room (fail {A = A} fault place) (λ a bytes. ⊥)
 never fault place = failing fault place (λ a bytes. ⊥) (λ a bytes p. p)
+
+-- productions one after another, grouped from the left and from the right
+pub from_left : {P Q R : List ℕ → Type 0} (bytes : List ℕ) → Joined (Joined P Q) R bytes → Joined P (Joined Q R) bytes
+from_left bytes p =
+    let q = p.first in
+    let whole : bytes ≡ q.front ++ (q.back ++ p.back) = p.whole ∙ ap (λ (front : List ℕ). front ++ p.back) q.whole ∙ append_assoc q.front q.back p.back in
+    record { front = q.front; back = q.back ++ p.back; first = q.first; second = record { front = q.back; back = p.back; first = q.second; second = p.second; whole = refl }; whole = whole }
+
+pub from_right : {P Q R : List ℕ → Type 0} (bytes : List ℕ) → Joined P (Joined Q R) bytes → Joined (Joined P Q) R bytes
+from_right bytes p =
+    let q = p.second in
+    let whole : bytes ≡ (p.front ++ q.front) ++ q.back = p.whole ∙ ap (λ (back : List ℕ). p.front ++ back) q.whole ∙ sym (append_assoc p.front q.front q.back) in
+    record { front = p.front ++ q.front; back = q.back; first = record { front = p.front; back = q.front; first = p.first; second = q.first; whole = refl }; second = q.second; whole = whole }

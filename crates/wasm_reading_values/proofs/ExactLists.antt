@@ -7,7 +7,7 @@ use Rattle.std.proofs.lemmas.List.Elements.{All-nil, All-cons, All-head, All-tai
 use Rattle.std.proofs.lemmas.Str.{IsUtf8-from_is_utf8, is_utf8-from_IsUtf8}
 use Rattle.wasm_leb.specs.Leb.{IsUnsignedEnd}
 use Rattle.wasm_leb.proofs.Spelled.{below, unsigned_below}
-use Rattle.wasm_grammar.specs.ProfileInstructions.{IsShortListOf}
+use Rattle.wasm_grammar.specs.ProfileInstructions.{FitsU32, IsShortListOf}
 use Rattle.wasm_grammar.specs.Profile.{NameFits}
 use Rattle.wasm_grammar.specs.GrammarValues.{Joined, ◌followed_by◌, IsExactly, IsByte, IsRaw, IsUnsigned, IsEach, IsVector, IsByteVector, IsName, IsSized}
 use Rattle.wasm_reading.specs.declared.fault.DecodeError.{DecodeError}
@@ -74,6 +74,11 @@ each_together Fits Entry (x ∷ xs) bytes h p = record {
   whole = p.whole;
 }
 
+-- what holds of each entry, where its bytes say so
+pub each_fits : {X : Type 0} (Fits : X → Type 0) (Entry : X → List ℕ → Type 0) → ((x : X) (bytes : List ℕ) → Entry x bytes → Fits x) → (xs : List X) (bytes : List ℕ) → IsEach Entry xs bytes → All Fits xs
+each_fits Fits Entry fits [] bytes p = All-nil Fits
+each_fits Fits Entry fits (x ∷ xs) bytes p = All-cons Fits x xs (fits x p.front p.first) (each_fits Fits Entry fits xs p.back p.second)
+
 -- a vector of entries of which something holds
 pub fitting_vector : {X : Type 0} {item : Reader X} {Fits : X → Type 0} {Entry : X → List ℕ → Type 0} → Exact item (λ x bytes. Fits x × Entry x bytes) → Exact (vector_at item) (λ xs bytes. IsShortListOf Fits xs × IsVector Entry xs bytes)
 fitting_vector {Fits = Fits} {Entry = Entry} k =
@@ -84,6 +89,14 @@ fitting_vector {Fits = Fits} {Entry = Entry} k =
     (λ xs bytes p.
     let q = p.1 in
     record { front = q.front; back = q.back; first = q.first; second = each_together Fits Entry xs q.back p.0.each q.second; whole = q.whole })
+
+-- a number of 32 bits, and that it is one
+pub fitting_u32 : Exact u32_at (λ n bytes. FitsU32 n × IsUnsigned n bytes)
+fitting_u32 = alike u32 (λ n bytes p. (unsigned_fits n bytes p, p)) (λ n bytes p. p.1)
+
+-- a vector of indices
+pub indices : Exact (vector_at u32_at) (λ ns bytes. IsShortListOf FitsU32 ns × IsVector IsUnsigned ns bytes)
+indices = fitting_vector fitting_u32
 
 each_byte : (xs bytes : List ℕ) → IsEach IsByte xs bytes → bytes ≡ xs
 each_byte [] bytes p = p

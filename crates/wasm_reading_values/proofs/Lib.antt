@@ -3,3 +3,5 @@ pub mod ExactNumbers
 pub mod ExactLists
 pub mod ExactTables
 pub mod ExactTypes
+pub mod ExactEntries
+pub mod ExactCodes

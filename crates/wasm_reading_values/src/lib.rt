@@ -3,4 +3,4 @@
 
 mod laws;
 
-pub use laws::values_are_read_exactly;
+pub use laws::{entries_are_read_exactly, types_are_read_exactly, values_are_read_exactly};
