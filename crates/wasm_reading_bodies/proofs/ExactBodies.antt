@@ -11,11 +11,13 @@ use Rattle.wasm_grammar.specs.GrammarInstructions.{IsInstruction, IsInstructions
 use Rattle.wasm_reading.specs.declared.fault.DecodeFault.TheVariants.{BadTag}
 use Rattle.wasm_reading.specs.Readers.{Input, Reader, ◌>>=◌, give, fail, byte_at}
 use Rattle.wasm_reading.specs.ReadInstructions.{Listed, instruction_from, listed_from, instructions_at, expression_at}
-use Rattle.wasm_reading_values.specs.Exactness.{Took, ExactIn, Exact}
+use Rattle.wasm_reading_values.specs.Exactness.{Took, ExactIn}
+use Rattle.wasm_reading_values.specs.EntriesRead.{ExpressionsReadExactly}
 use Rattle.wasm_reading_values.proofs.Compose.{alike, giving, failing, branch, placed, followed, made, from_and_then, by_length}
+use Rattle.wasm_reading_bodies.specs.BodiesRead.{IsCloser, IsListed, ListsReadExactly}
 use Rattle.wasm_reading_bodies.proofs.ExactPlain.{by_first_byte}
 use Rattle.wasm_reading_bodies.proofs.Spelled.{opcode_first, has_opcode, not_end, not_else}
-use Rattle.wasm_reading_bodies.proofs.ExactBlocks.{IsCloser, IsListed, IsBehind, only_end, instruction_exact}
+use Rattle.wasm_reading_bodies.proofs.ExactBlocks.{IsBehind, only_end, instruction_exact}
 
 -- what an opcode begins, and what is read of it: the end, `else`, or an instruction and those behind it
 pub data Begins (with_else : Bool) (depth opcode : ℕ) (listed : Listed) (bytes : List ℕ) : Type 0 where
@@ -158,7 +160,7 @@ no_room place P some = record {
 }
 
 -- a list of instructions
-pub instructions : (fuel : ℕ) (with_else : Bool) (depth : ℕ) → ExactIn (Some fuel) (instructions_at fuel with_else depth) (IsListed with_else depth)
+pub instructions : ListsReadExactly
 instructions zero with_else depth = placed _ _ (λ place. no_room place (IsListed with_else depth) (some_byte with_else depth))
 instructions (suc fuel) with_else depth =
     placed _ _ (λ place.
@@ -166,12 +168,9 @@ instructions (suc fuel) with_else depth =
     (λ opcode. listed_exact (Some fuel) (instructions_at fuel) (λ e d. instructions fuel e d) with_else depth place opcode))
 
 -- an expression within the nesting of the profile
-abbrev pub IsNestedExpression : List WInstr → List ℕ → Type 0
-IsNestedExpression xs bytes = NestsAtMost nesting_limit xs × IsExpression xs bytes
-
-pub expression : Exact expression_at IsNestedExpression
+pub expression : ExpressionsReadExactly
 expression =
-    by_length (λ fuel. instructions_at fuel false 0 >>= λ xs. give xs.0) IsNestedExpression (λ most.
+    by_length (λ fuel. instructions_at fuel false 0 >>= λ xs. give xs.0) _ (λ most.
     alike (made (λ xs. xs.0) (instructions most false 0))
     (λ xs bytes p.
     let l = p.2.1 in

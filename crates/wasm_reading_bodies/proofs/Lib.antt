@@ -5,3 +5,4 @@ pub mod ExactPlain
 pub mod Spelled
 pub mod ExactBlocks
 pub mod ExactBodies
+pub mod Bodies
