@@ -20,27 +20,17 @@ use Rattle.wasm_reading.specs.ReadInstructions.{Listed, is_from_to, kind_of, mad
 use Rattle.wasm_reading_values.specs.Exactness.{ExactIn, Exact}
 use Rattle.wasm_reading_values.proofs.Compose.{alike, failing, branch, followed, in_room}
 use Rattle.wasm_reading_values.proofs.ExactTables.{block_type_byte}
+use Rattle.wasm_reading_bodies.specs.BodiesRead.{IsCloser, IsListed}
 use Rattle.wasm_reading_bodies.proofs.OpcodeKinds.{kind_in, nests, has_else, opcode_kind, opcode_nests, else_opcode}
 use Rattle.wasm_reading_bodies.proofs.ExactPlain.{IsOf, IsPlainBy, made_instruction, plain_by}
 use Rattle.wasm_reading_bodies.proofs.Spelled.{has_opcode, not_nesting, nesting_of_plain, nesting_of_list, nesting_of_arms}
-
--- the byte behind a list: the end, or `else` where one may stand
-abbrev pub IsCloser : Bool → Bool → List ℕ → Type 0
-IsCloser with_else false = IsByte 0x0B
-IsCloser true true = IsByte 0x05
-IsCloser false true = λ bytes. ⊥
-
--- instructions within the nesting that is left, and the byte behind them
-abbrev pub IsListed : Bool → ℕ → Listed → List ℕ → Type 0
-IsListed with_else depth listed bytes =
-    NestsAtMost (nesting_limit - depth) listed.0 × (IsInstructions listed.0 followed_by IsCloser with_else listed.1) bytes
 
 -- an instruction within the nesting that is left, by its bytes behind the opcode
 abbrev pub IsBehind : ℕ → ℕ → WInstr → List ℕ → Type 0
 IsBehind depth opcode w bytes = (nesting w ≤ nesting_limit - depth) × IsInstruction w (opcode ∷ bytes)
 
 -- where no `else` may stand, the end does
-only_end : (stop : Bool) (bytes : List ℕ) → IsCloser false stop bytes → bytes ≡ 0x0B ∷ []
+pub only_end : (stop : Bool) (bytes : List ℕ) → IsCloser false stop bytes → bytes ≡ 0x0B ∷ []
 only_end false bytes p = p
 only_end true bytes p = absurd p
 

@@ -12,11 +12,13 @@ use Rattle.wasm_grammar.specs.ProfileInstructions.{plain_fits, ConstantFits}
 use Rattle.wasm_reading.specs.declared.kinds.ImmediateKind.{ImmediateKind}
 use Rattle.wasm_reading.specs.declared.fault.DecodeFault.TheVariants.{BadTag}
 use Rattle.wasm_reading.specs.Readers.{Reader, ◌>>=◌, byte_at}
-use Rattle.wasm_reading.specs.ReadInstructions.{opcode_fault, made, plain_at, constant_kind_of, constant_at}
+use Rattle.wasm_reading.specs.ReadInstructions.{kind_of, opcode_fault, made, plain_at, constant_kind_of}
 use Rattle.wasm_reading_values.specs.Exactness.{HasRoom, ExactIn, Exact}
 use Rattle.wasm_reading_values.proofs.Compose.{alike, giving, failing, placed, followed, followed_in, in_room}
 use Rattle.wasm_reading_values.proofs.ExactNumbers.{one_byte, before_byte}
-use Rattle.wasm_reading_bodies.proofs.OpcodeKinds.{kind_in, IsThere, constant_kind, constant_there, is_constant}
+use Rattle.wasm_reading_values.specs.EntriesRead.{ConstantsReadExactly}
+use Rattle.wasm_reading_bodies.specs.BodiesRead.{PlainReadExactly}
+use Rattle.wasm_reading_bodies.proofs.OpcodeKinds.{kind_in, IsThere, opcode_kind, constant_kind, constant_there, is_constant}
 use Rattle.wasm_reading_bodies.proofs.ByTables.{by_opcode}
 use Rattle.wasm_reading_bodies.proofs.ExactImmediates.{IsOfKind, immediate, immediate_fits}
 
@@ -66,6 +68,13 @@ plain_by place opcode (Some kind) =
 plain_by place opcode None =
     failing (opcode_fault opcode) place _ (λ w bytes p. subst IsThere p.0 (has_kind (immediate_of w) bytes p.2))
 
+-- the same, by the opcode alone, which tells the kind
+pub plain_behind_opcode : PlainReadExactly
+plain_behind_opcode place opcode =
+    alike (plain_by place opcode (kind_of opcode))
+    (λ w bytes p. ((p.1, immediate_fits (immediate_of w) bytes p.2), p.2))
+    (λ w bytes p. (sym (opcode_kind w) ∙ ap kind_of p.0.0, p.0.0, p.1))
+
 -- a byte, and what it begins
 pub by_first_byte : {room : Option ℕ} (less : Option ℕ) {A : Type 0} (next : ℕ → Reader A) (P : A → List ℕ → Type 0) → ((b : ℕ) (bytes : List ℕ) → HasRoom room (b ∷ bytes) → HasRoom less bytes) → ((a : A) → P a [] → ⊥) → ((b : ℕ) → ExactIn less (next b) (λ a bytes. P a (b ∷ bytes))) → ExactIn room (byte_at >>= next) P
 by_first_byte {room} less {A} next P smaller some k =
@@ -80,7 +89,7 @@ by_first_byte {room} less {A} next P smaller some k =
     first_and_rest a (b ∷ bytes) p = (b, record { front = b ∷ []; back = bytes; first = refl; second = p; whole = refl })
 
 -- a constant expression that fits
-abbrev pub IsFittingConstant : WInstr → List ℕ → Type 0
+abbrev IsFittingConstant : WInstr → List ℕ → Type 0
 IsFittingConstant w bytes = ConstantFits w × IsConstantExpression w bytes
 
 no_constant : (w : WInstr) (front back : List ℕ) → IsInstruction w front → front ++ back ≡ [] → ⊥
@@ -111,7 +120,7 @@ constant_with opcode w bytes p =
     ((allowed, plain_fits (immediate_fits (immediate_of w) p.front f.2)), record { front = opcode ∷ p.front; back = p.back; first = spelled; second = p.second; whole = ap (λ (xs : List ℕ). opcode ∷ xs) p.whole })
 
 -- a constant expression
-pub constant : Exact constant_at IsFittingConstant
+pub constant : ConstantsReadExactly
 constant =
     placed _ _ (λ place.
     by_first_byte None _ IsFittingConstant (λ b bytes h. h) (λ w p. no_constant w p.1.front p.1.back p.1.first (sym p.1.whole)) (λ opcode.

@@ -4,3 +4,5 @@ pub mod ExactImmediates
 pub mod ExactPlain
 pub mod Spelled
 pub mod ExactBlocks
+pub mod ExactBodies
+pub mod Bodies

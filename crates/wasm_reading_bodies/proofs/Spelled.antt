@@ -13,7 +13,9 @@ use Rattle.wasm_grammar.specs.GrammarInstructions.{IsImmediate, IsInstruction, I
 use Rattle.wasm_grammar.specs.ProfileInstructions.{InstructionFits, InstructionsFit, plain_fits, nested_fits, two_arms_fit, none_fit, more_fit}
 use Rattle.wasm_grammar.proofs.InstructionLayers.{nesting-layer}
 use Rattle.wasm_reading.specs.ReadInstructions.{is_from_to, kind_of}
-use Rattle.wasm_reading_bodies.proofs.OpcodeKinds.{kind_in, nests, opcode_kind, opcode_nests}
+use Rattle.wasm_reading_values.specs.EntriesRead.{ShortExpressionsFit}
+use Rattle.wasm_reading_bodies.specs.BodiesRead.{ConstantsNestNone}
+use Rattle.wasm_reading_bodies.proofs.OpcodeKinds.{kind_in, nests, IsThere, opcode_kind, opcode_nests, constant_there}
 use Rattle.wasm_reading_bodies.proofs.ExactImmediates.{immediate_fits}
 
 -- an instruction begins with its opcode
@@ -66,6 +68,14 @@ mutual
       let also : length back < 2 ^ 32 = omega (arith, length-append front back) in
       more_fit x xs e (instruction_fits x front shorter p) (instructions_fit xs back also q)
 
+-- so does an expression of fewer than 2 ^ 32 bytes, and its length
+pub short_expressions_fit : ShortExpressionsFit
+short_expressions_fit ws bytes p h =
+    let size : length bytes ≡ length (p.front ++ p.back) = ap length p.whole in
+    let shorter : length p.front < 2 ^ 32 = omega (arith, length-append p.front p.back) in
+    let count = as_many ws p.front p.first in
+    (omega arith, instructions_fit ws p.front shorter p.first)
+
 -- immediates that are spelled by themselves nest no instruction
 pub not_nesting : (i : Immediate WInstr) (bytes : List ℕ) → IsImmediate i bytes → nests i ≡ false
 not_nesting (Body t xs) bytes p = absurd p
@@ -108,3 +118,11 @@ nesting_of_list w t xs e = nesting_by w (Body t xs) e
 
 pub nesting_of_arms : (w : WInstr) (t : Option ValTy) (xs ys : List WInstr) → immediate_of w ≡ Bodies t xs ys → nesting w ≡ 1 + max (greatest nesting xs) (greatest nesting ys)
 nesting_of_arms w t xs ys e = nesting_by w (Bodies t xs ys) e
+
+kind_nests_none : (i : Immediate WInstr) → IsThere (kind_in i) → nests i ≡ false
+kind_nests_none (Body t xs) h = absurd h
+kind_nests_none (Bodies t xs ys) h = absurd h
+kind_nests_none _ h = refl
+
+pub constants_nest_none : ConstantsNestNone
+constants_nest_none w h = nesting_of_plain w (kind_nests_none (immediate_of w) (constant_there w h))
