@@ -1,0 +1,3 @@
+pub mod ToEnd
+pub mod Contents
+pub mod Loops
