@@ -4,3 +4,6 @@ pub mod Loops
 pub mod Rows
 pub mod Slots
 pub mod Modules
+pub mod FaultBounds
+pub mod FaultsOfEntries
+pub mod Faults
