@@ -1,9 +1,8 @@
 -- What the tables make of an opcode and immediates has that opcode and those immediates: by what each entry has.
-use Rattle.std.proofs.Common.{◌≡◌, ◌∙◌, ℕ, Bool, true, false, List, [], ◌∷◌, refl, sym, ap, subst, Option, Some, None}
-use Rattle.std.specs.Prelude.{◌==◌, ◌&&◌, if◌then◌else◌}
+use Rattle.std.proofs.Common.{◌≡◌, ℕ, Bool, true, false, List, [], ◌∷◌, refl, subst, Option, Some, None}
+use Rattle.std.specs.Prelude.{◌==◌, if◌then◌else◌}
 use Rattle.std.specs.Option.{option_map}
 use Rattle.std.proofs.lemmas.Bool.{eqb-true}
-use Rattle.wasm_ast.specs.declared.types.ValTy.{ValTy}
 use Rattle.wasm_ast.specs.declared.instructions.WInstr.{WInstr}
 use Rattle.wasm_ast.specs.declared.instructions.WInstr.TheOpen.{WInstr-F}
 use Rattle.wasm_ast.specs.Opcodes.{opcode_in}
@@ -22,10 +21,12 @@ at_entry P true opcode entry rest x t h k e =
     subst (λ o. P o x) same (subst (λ y. P entry.0 y) one h)
 at_entry P false opcode entry rest x t h k e = k e
 
+-- what a table has at an opcode
 found : {X : Type 0} (P : ℕ → X → Type 0) (table : List (ℕ × X)) (opcode : ℕ) (x : X) → EachEntry P table → look_up opcode table ≡ Some x → P opcode x
 found P [] opcode x h e = absurd (cc)
 found P (entry ∷ entries) opcode x h e = at_entry P (entry.0 == opcode) opcode entry (look_up opcode entries) x refl h.0 (found P entries opcode x h.1) e
 
+-- what is made of an entry, where there is one
 made_of : {X Y : Type 0} (o : Option X) (make : X → Y) (y : Y) → option_map make o ≡ Some y → (x : X) × (o ≡ Some x) × (make x ≡ y)
 made_of (Some x) make y e = (x, refl, cc)
 made_of None make y e = absurd (cc)
@@ -34,7 +35,7 @@ made_of None make y e = absurd (cc)
 abbrev pub HasParts : ℕ → Immediate WInstr → WInstr-F WInstr → Type 0
 HasParts opcode immediate x = (opcode_in x ≡ opcode) × (immediate_in x ≡ immediate)
 
--- entries that are instructions, or make one of immediates that `of` is made of
+-- what `make` makes of an entry, where what it makes of each entry has the entry's opcode and these immediates
 by_entries : {X : Type 0} (table : List (ℕ × X)) (opcode : ℕ) (immediate : Immediate WInstr) (make : X → WInstr-F WInstr) (y : WInstr-F WInstr) → EachEntry (λ o x. HasParts o immediate (make x)) table → option_map make (look_up opcode table) ≡ Some y → HasParts opcode immediate y
 by_entries table opcode immediate make y h e =
     let m = made_of (look_up opcode table) make y e in
@@ -45,6 +46,7 @@ abbrev is_bare : Immediate WInstr → Bool
 is_bare Bare = true
 is_bare _ = false
 
+-- a table of such instructions, by a test
 abbrev are_bare : List (ℕ × WInstr-F WInstr) → Bool
 are_bare [] = true
 are_bare (entry ∷ entries) = if opcode_in entry.1 == entry.0 then (if is_bare (immediate_in entry.1) then are_bare entries else false) else false
@@ -64,6 +66,7 @@ each_bare (entry ∷ entries) e =
     let t = by_tests (opcode_in entry.1 == entry.0) (is_bare (immediate_in entry.1)) (are_bare entries) e in
     ((eqb-true (opcode_in entry.1) entry.0 t.0, bare (immediate_in entry.1) t.1), each_bare entries t.2)
 
+-- the instruction that the tables have at an opcode, with these immediates
 pub by_opcode : (opcode : ℕ) (immediate : Immediate WInstr) (x : WInstr-F WInstr) → instruction_at opcode immediate ≡ Some x → HasParts opcode immediate x
 by_opcode opcode Bare x e = found (λ o y. HasParts o Bare y) bare_instructions opcode x (each_bare bare_instructions refl) e
 by_opcode opcode (Index n) x e =

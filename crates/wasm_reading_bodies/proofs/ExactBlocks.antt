@@ -1,27 +1,25 @@
 -- Instructions that nest others are read exactly where the lists in them are: a block, a loop, an if with one arm or
 -- with two.
-use Rattle.std.proofs.Common.{◌≡◌, ◌∙◌, ℕ, ◌+◌, ◌-◌, ◌<◌, ◌≤◌, max, Bool, true, false, List, [], ◌∷◌, ◌++◌, refl, sym, ap, subst, arith, append-nil, append_assoc, Option, Some, None}
-use Rattle.std.specs.Prelude.{◌==◌, if◌then◌else◌, nat_le}
+use Rattle.std.proofs.Common.{◌≡◌, ◌∙◌, ℕ, ◌+◌, ◌-◌, ◌<◌, ◌≤◌, Bool, true, false, List, [], ◌∷◌, ◌++◌, refl, sym, ap, subst, arith, append-nil, append_assoc, Option}
+use Rattle.std.specs.Prelude.{◌==◌, nat_le}
 use Rattle.std.proofs.lemmas.Bool.{leb-true, leb-false, eqb-true}
 use Rattle.wasm_ast.specs.declared.types.ValTy.{ValTy}
 use Rattle.wasm_ast.specs.declared.instructions.WInstr.{WInstr}
 use Rattle.wasm_ast.specs.Opcodes.{opcode_of}
-use Rattle.wasm_ast.specs.Immediates.{Immediate, Body, Bodies, immediate_of}
+use Rattle.wasm_ast.specs.Immediates.{Body, Bodies, immediate_of}
 use Rattle.wasm_ast.specs.ByOpcode.{instruction_at}
 use Rattle.wasm_grammar.specs.Tags.{block_type}
-use Rattle.wasm_grammar.specs.Nesting.{greatest, nesting, nesting_limit, NestsAtMost}
-use Rattle.wasm_grammar.specs.GrammarValues.{Joined, ◌followed_by◌, IsByte}
-use Rattle.wasm_grammar.specs.GrammarInstructions.{IsImmediate, IsInstruction, IsInstructions, plain, nested, two_arms}
+use Rattle.wasm_grammar.specs.Nesting.{nesting, nesting_limit, NestsAtMost}
+use Rattle.wasm_grammar.specs.GrammarValues.{Joined, IsByte}
+use Rattle.wasm_grammar.specs.GrammarInstructions.{IsImmediate, IsInstruction, plain, nested, two_arms}
 use Rattle.wasm_reading.specs.declared.fault.DecodeFault.TheVariants.{LimitOutside}
 use Rattle.wasm_reading.specs.Readers.{Reader, ◌>>=◌, fail}
-use Rattle.wasm_reading.specs.ReadValues.{tag_at}
-use Rattle.wasm_reading.specs.ReadTypes.{block_type_of}
 use Rattle.wasm_reading.specs.ReadInstructions.{Listed, is_from_to, kind_of, made, plain_at, nested_at, other_arm_at, if_at, instruction_from}
-use Rattle.wasm_reading_values.specs.Exactness.{ExactIn, Exact}
+use Rattle.wasm_reading_values.specs.Exactness.{ExactIn}
 use Rattle.wasm_reading_values.proofs.Compose.{alike, failing, branch, followed, in_room}
 use Rattle.wasm_reading_values.proofs.ExactTables.{block_type_byte}
 use Rattle.wasm_reading_bodies.specs.BodiesRead.{IsCloser, IsListed}
-use Rattle.wasm_reading_bodies.proofs.OpcodeKinds.{kind_in, nests, has_else, opcode_kind, opcode_nests, else_opcode}
+use Rattle.wasm_reading_bodies.proofs.OpcodeKinds.{nests, has_else, opcode_kind, opcode_nests, else_opcode}
 use Rattle.wasm_reading_bodies.proofs.ExactPlain.{IsOf, IsPlainBy, made_instruction, plain_by}
 use Rattle.wasm_reading_bodies.proofs.Spelled.{has_opcode, not_nesting, nesting_of_plain, nesting_of_list, nesting_of_arms}
 

@@ -1,17 +1,17 @@
 -- Lists of instructions are read exactly, with room for as many bytes as there may be instructions: by induction on
 -- that number. So are expressions.
-use Rattle.std.proofs.Common.{◌≡◌, ◌∙◌, ℕ, zero, suc, ◌+◌, ◌-◌, ◌≤◌, max, Bool, true, false, List, [], ◌∷◌, ◌++◌, length, refl, sym, ap, subst, arith, append_assoc, length-append, Option, Some, None}
+use Rattle.std.proofs.Common.{◌≡◌, ◌∙◌, ℕ, zero, suc, ◌-◌, ◌≤◌, Bool, true, false, List, [], ◌∷◌, ◌++◌, length, refl, sym, ap, subst, arith, append_assoc, length-append, Option, Some}
 use Rattle.std.specs.Prelude.{◌==◌, if◌then◌else◌}
 use Rattle.std.proofs.lemmas.Bool.{eqb-true, eqb-false}
 use Rattle.wasm_ast.specs.declared.instructions.WInstr.{WInstr}
 use Rattle.wasm_ast.specs.Opcodes.{opcode_of}
 use Rattle.wasm_grammar.specs.Nesting.{greatest, nesting, nesting_limit, NestsAtMost}
-use Rattle.wasm_grammar.specs.GrammarValues.{Joined, ◌followed_by◌, IsByte}
-use Rattle.wasm_grammar.specs.GrammarInstructions.{IsInstruction, IsInstructions, none, more, IsExpression}
+use Rattle.wasm_grammar.specs.GrammarValues.{Joined}
+use Rattle.wasm_grammar.specs.GrammarInstructions.{IsInstruction, IsInstructions, none, more}
 use Rattle.wasm_reading.specs.declared.fault.DecodeFault.TheVariants.{BadTag}
-use Rattle.wasm_reading.specs.Readers.{Input, Reader, ◌>>=◌, give, fail, byte_at}
-use Rattle.wasm_reading.specs.ReadInstructions.{Listed, instruction_from, listed_from, instructions_at, expression_at}
-use Rattle.wasm_reading_values.specs.Exactness.{Took, ExactIn}
+use Rattle.wasm_reading.specs.Readers.{Reader, ◌>>=◌, give, fail, byte_at}
+use Rattle.wasm_reading.specs.ReadInstructions.{Listed, instruction_from, listed_from, instructions_at}
+use Rattle.wasm_reading_values.specs.Exactness.{ExactIn}
 use Rattle.wasm_reading_values.specs.EntriesRead.{ExpressionsReadExactly}
 use Rattle.wasm_reading_values.proofs.Compose.{alike, giving, failing, branch, placed, followed, made, from_and_then, by_length}
 use Rattle.wasm_reading_bodies.specs.BodiesRead.{IsCloser, IsListed, ListsReadExactly}

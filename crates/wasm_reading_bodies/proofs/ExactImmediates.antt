@@ -1,22 +1,21 @@
 -- The immediates of each kind are read exactly, and their numbers fit their fields.
-use Rattle.std.proofs.Common.{◌≡◌, ◌∙◌, ℕ, ◌^◌, ◌<◌, List, [], ◌∷◌, refl, sym, ap, subst, Option, Some, None}
-use Rattle.std.proofs.lemmas.List.Elements.{All-nil, All-cons}
+use Rattle.std.proofs.Common.{◌≡◌, ◌∙◌, ℕ, ◌^◌, ◌<◌, List, refl, sym, ap, subst, Option, Some, None}
 use Rattle.wasm_leb.specs.Leb.{IsSignedEnd}
 use Rattle.wasm_leb.proofs.Spelled.{below, signed_below}
 use Rattle.wasm_ast.specs.declared.instructions.WInstr.{WInstr}
 use Rattle.wasm_ast.specs.Immediates.{Immediate, Bare, Index, Labels, IndexZero, Zero, MemArg, Const32, Const64, Body, Bodies}
-use Rattle.wasm_grammar.specs.GrammarValues.{Joined, IsByte, IsUnsigned, IsSigned32, IsSigned64, IsEach, IsVector}
+use Rattle.wasm_grammar.specs.GrammarValues.{IsByte, IsUnsigned, IsSigned32, IsSigned64}
 use Rattle.wasm_grammar.specs.GrammarInstructions.{IsImmediate}
-use Rattle.wasm_grammar.specs.ProfileInstructions.{FitsU32, IsShortListOf, ImmediateFits}
+use Rattle.wasm_grammar.specs.ProfileInstructions.{FitsU32, ImmediateFits}
 use Rattle.wasm_reading.specs.declared.kinds.ImmediateKind.{ImmediateKind}
 use Rattle.wasm_reading.specs.declared.kinds.ImmediateKind.TheVariants as kinds
-use Rattle.wasm_reading.specs.Readers.{Reader, ◌>>=◌, give}
-use Rattle.wasm_reading.specs.ReadValues.{tag_at, only, u32_at, vector_at}
+use Rattle.wasm_reading.specs.Readers.{◌>>=◌, give}
+use Rattle.wasm_reading.specs.ReadValues.{tag_at, only, u32_at}
 use Rattle.wasm_reading.specs.ReadInstructions.{immediate_at}
 use Rattle.wasm_reading_values.specs.Exactness.{Exact}
 use Rattle.wasm_reading_values.proofs.Compose.{alike, giving, followed, made}
 use Rattle.wasm_reading_values.proofs.ExactNumbers.{u32, s32, s64, only_byte}
-use Rattle.wasm_reading_values.proofs.ExactLists.{unsigned_fits, vector}
+use Rattle.wasm_reading_values.proofs.ExactLists.{unsigned_fits, each_fits, vector}
 use Rattle.wasm_reading_bodies.proofs.OpcodeKinds.{kind_in}
 
 -- immediates of a kind are made of what stands there
@@ -138,15 +137,11 @@ signed32_fits n bytes p = below IsSignedEnd signed_below (2 ^ 32) bytes n p
 signed64_fits : (n : ℕ) (bytes : List ℕ) → IsSigned64 n bytes → n < 2 ^ 64
 signed64_fits n bytes p = below IsSignedEnd signed_below (2 ^ 64) bytes n p
 
-each_fits : (ns : List ℕ) (bytes : List ℕ) → IsEach IsUnsigned ns bytes → Rattle.std.specs.Prelude.All FitsU32 ns
-each_fits [] bytes p = All-nil FitsU32
-each_fits (n ∷ ns) bytes p = All-cons FitsU32 n ns (unsigned_fits n p.front p.first) (each_fits ns p.back p.second)
-
 pub immediate_fits : (i : Immediate WInstr) (bytes : List ℕ) → IsImmediate i bytes → ImmediateFits i
 immediate_fits Bare bytes p = tt
 immediate_fits (Index n) bytes p = unsigned_fits n bytes p
 immediate_fits (Labels labels default) bytes p =
-    (record { short = unsigned_fits _ p.first.front p.first.first; each = each_fits labels p.first.back p.first.second }, unsigned_fits default p.back p.second)
+    (record { short = unsigned_fits _ p.first.front p.first.first; each = each_fits FitsU32 IsUnsigned unsigned_fits labels p.first.back p.first.second }, unsigned_fits default p.back p.second)
 immediate_fits (IndexZero n) bytes p = unsigned_fits n p.front p.first
 immediate_fits Zero bytes p = tt
 immediate_fits (MemArg align offset) bytes p = (unsigned_fits align p.front p.first, unsigned_fits offset p.back p.second)

@@ -2,8 +2,8 @@
 use Rattle.std.proofs.Common.{◌≡◌, ◌∙◌, ℕ, List, [], ◌∷◌, ◌++◌, refl, sym, ap, subst, append-nil, Option, Some, None}
 use Rattle.wasm_ast.specs.declared.instructions.WInstr.{WInstr, out-WInstr, roll-WInstr, out-roll-WInstr, roll-out-WInstr}
 use Rattle.wasm_ast.specs.declared.instructions.WInstr.TheOpen.{WInstr-F}
-use Rattle.wasm_ast.specs.Opcodes.{opcode_in, opcode_of}
-use Rattle.wasm_ast.specs.Immediates.{Immediate, Bare, Index, Labels, IndexZero, Zero, MemArg, Const32, Const64, Body, Bodies, immediate_in, immediate_of}
+use Rattle.wasm_ast.specs.Opcodes.{opcode_of}
+use Rattle.wasm_ast.specs.Immediates.{Immediate, Body, Bodies, immediate_of}
 use Rattle.wasm_ast.specs.ByOpcode.{instruction_at}
 use Rattle.wasm_ast.proofs.Tables.{instruction_at-found}
 use Rattle.wasm_grammar.specs.GrammarValues.{Joined, IsByte}
@@ -20,7 +20,7 @@ use Rattle.wasm_reading_values.specs.EntriesRead.{ConstantsReadExactly}
 use Rattle.wasm_reading_bodies.specs.BodiesRead.{PlainReadExactly}
 use Rattle.wasm_reading_bodies.proofs.OpcodeKinds.{kind_in, IsThere, opcode_kind, constant_kind, constant_there, is_constant}
 use Rattle.wasm_reading_bodies.proofs.ByTables.{by_opcode}
-use Rattle.wasm_reading_bodies.proofs.ExactImmediates.{IsOfKind, immediate, immediate_fits}
+use Rattle.wasm_reading_bodies.proofs.ExactImmediates.{immediate, immediate_fits}
 
 made_from : {room : Option ℕ} (place : ℕ) (o : Option (WInstr-F WInstr)) → ExactIn room (made place o) (λ w bytes. (o ≡ Some (out-WInstr w)) × (bytes ≡ []))
 made_from place (Some x) =

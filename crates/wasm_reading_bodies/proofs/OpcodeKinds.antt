@@ -1,15 +1,11 @@
 -- The opcode of an instruction tells what follows it: the tables that a reader looks into agree with those of the
 -- trees, entry by entry.
-use Rattle.std.proofs.Common.{◌≡◌, ◌∙◌, ℕ, Bool, true, false, List, [], ◌∷◌, refl, sym, ap, subst, Option, Some, None}
-use Rattle.std.specs.Prelude.{◌==◌, ◌&&◌, if◌then◌else◌}
-use Rattle.std.specs.Option.{option_map}
-use Rattle.std.proofs.lemmas.Bool.{eqb-true}
-use Rattle.wasm_ast.specs.declared.types.ValTy.{ValTy}
+use Rattle.std.proofs.Common.{◌≡◌, Bool, true, false, refl, Option, Some, None}
+use Rattle.std.specs.Prelude.{◌==◌, ◌&&◌}
 use Rattle.wasm_ast.specs.declared.instructions.WInstr.{WInstr, out-WInstr}
 use Rattle.wasm_ast.specs.declared.instructions.WInstr.TheOpen.{WInstr-F}
 use Rattle.wasm_ast.specs.Opcodes.{opcode_in, opcode_of}
 use Rattle.wasm_ast.specs.Immediates.{Immediate, Bare, Index, Labels, IndexZero, Zero, MemArg, Const32, Const64, Body, Bodies, immediate_in, immediate_of}
-use Rattle.wasm_ast.specs.ByOpcode.{instruction_at, look_up, bare_instructions, index_instructions, label_instructions, index_zero_instructions, zero_instructions, memory_instructions, const32_instructions, const64_instructions, body_instructions, bodies_instructions}
 use Rattle.wasm_grammar.specs.ProfileInstructions.{IsConstantIn, IsConstant}
 use Rattle.wasm_reading.specs.declared.kinds.ImmediateKind.{ImmediateKind}
 use Rattle.wasm_reading.specs.declared.kinds.ImmediateKind.TheVariants as kinds
@@ -44,6 +40,7 @@ abbrev pub IsThere : Option ImmediateKind → Type 0
 IsThere None = ⊥
 IsThere (Some kind) = Unit {0}
 
+-- instruction by instruction, by computing
 kind_found : (x : WInstr-F WInstr) → kind_of (opcode_in x) ≡ kind_in (immediate_in x)
 kind_found WInstr-F.Unreachable = refl
 kind_found _ = refl
@@ -72,6 +69,7 @@ constant_plain (WInstr-F.I64Const n) h = tt
 constant_plain (WInstr-F.GlobalGet n) h = tt
 constant_plain _ h = absurd h
 
+-- what an opcode tells of the immediates
 pub opcode_kind : (w : WInstr) → kind_of (opcode_of w) ≡ kind_in (immediate_of w)
 opcode_kind w = kind_found (out-WInstr w)
 

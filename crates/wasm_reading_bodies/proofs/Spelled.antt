@@ -1,12 +1,10 @@
 -- What instructions that are spelled have: their opcode first, no more instructions than bytes, numbers that fit their
 -- fields where there are fewer than 2 ^ 32 bytes, and the nesting of their lists.
-use Rattle.std.proofs.Common.{◌≡◌, ◌∙◌, ℕ, ◌+◌, ◌^◌, ◌<◌, ◌≤◌, max, List, [], ◌∷◌, ◌++◌, length, refl, sym, ap, subst, arith, length-append, Bool, true, false, Option, Some, None}
-use Rattle.std.specs.Prelude.{◌==◌, ◌&&◌}
-use Rattle.std.proofs.lemmas.Bool.{eqb-true}
+use Rattle.std.proofs.Common.{◌≡◌, ◌∙◌, ℕ, ◌+◌, ◌^◌, ◌<◌, ◌≤◌, max, List, [], ◌∷◌, ◌++◌, length, refl, sym, ap, arith, length-append, true, false, Option, None}
 use Rattle.wasm_ast.specs.declared.types.ValTy.{ValTy}
 use Rattle.wasm_ast.specs.declared.instructions.WInstr.{WInstr}
 use Rattle.wasm_ast.specs.Opcodes.{opcode_of}
-use Rattle.wasm_ast.specs.Immediates.{Immediate, Bare, Index, Labels, IndexZero, Zero, MemArg, Const32, Const64, Body, Bodies, immediate_of}
+use Rattle.wasm_ast.specs.Immediates.{Immediate, Body, Bodies, immediate_of}
 use Rattle.wasm_grammar.specs.Tags.{block_type}
 use Rattle.wasm_grammar.specs.Nesting.{greatest, immediate_nesting, nesting}
 use Rattle.wasm_grammar.specs.GrammarInstructions.{IsImmediate, IsInstruction, IsInstructions, plain, nested, two_arms, none, more}
