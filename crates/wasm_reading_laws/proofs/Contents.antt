@@ -19,7 +19,7 @@ use Rattle.wasm_grammar.specs.GrammarModules.{IsImport, IsGlobal, IsExport, IsEl
 use Rattle.wasm_reading.specs.Readers.{Reader}
 use Rattle.wasm_reading.specs.ReadModules.{content_at}
 use Rattle.wasm_reading_values.specs.Exactness.{Exact}
-use Rattle.wasm_reading_values.proofs.Compose.{branch, made}
+use Rattle.wasm_reading_values.proofs.Compose.{made}
 use Rattle.wasm_reading_values.proofs.ExactLists.{fitting_vector, fitting_u32, indices}
 use Rattle.wasm_reading_values.proofs.ExactTypes.{func_type, memory_type, table_type}
 use Rattle.wasm_reading_values.proofs.ExactEntries.{import_entry, export_entry}

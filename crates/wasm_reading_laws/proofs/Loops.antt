@@ -1,13 +1,13 @@
 -- Sections as the reader takes them: one after another, each behind a lesser id, into the module so far. They are read
 -- exactly, to the end of the input.
-use Rattle.std.proofs.Common.{◌≡◌, ◌∙◌, ℕ, zero, suc, ◌+◌, ◌<◌, ◌≤◌, Bool, true, false, List, [], ◌∷◌, ◌++◌, length, refl, sym, ap, subst, arith, inl, inr, length-append, append_assoc, Option, None, Ok}
+use Rattle.std.proofs.Common.{◌≡◌, ◌∙◌, ℕ, zero, suc, ◌<◌, ◌≤◌, Bool, true, false, List, [], ◌∷◌, ◌++◌, length, refl, sym, ap, subst, arith, inl, inr, length-append, append_assoc, Ok}
 use Rattle.std.specs.Prelude.{◌⊎◌, ◌==◌, nat_lt, nat_le, if◌then◌else◌}
 use Rattle.std.proofs.lemmas.Bool.{ltb-true, ltb-false, leb-true, leb-false, eqb-true, eqb-false, ne_eqb, cond-true, cond-false}
 use Rattle.wasm_ast.specs.declared.modules.WModule.{WModule}
 use Rattle.wasm_grammar.specs.GrammarValues.{Joined, IsByte, IsRaw, IsUnsigned, IsSized}
 use Rattle.wasm_grammar.specs.GrammarModules.{IsSection, IsCustomSection}
 use Rattle.wasm_reading.specs.declared.fault.DecodeFault.TheVariants.{BadTag, BadOrder, CountMismatch}
-use Rattle.wasm_reading.specs.Readers.{Input, Reader, ◌>>=◌, give, fail, byte_at}
+use Rattle.wasm_reading.specs.Readers.{Input, Reader, ◌>>=◌, fail}
 use Rattle.wasm_reading.specs.ReadModules.{content_at, module_at_end, custom_at, is_empty, section_from, sections_at}
 use Rattle.wasm_reading.specs.ReadValues.{sized_at}
 use Rattle.wasm_reading_values.specs.Exactness.{Exact}
@@ -91,7 +91,7 @@ the_end most so_far =
     branch_to_end (length so_far.codes == length so_far.funcs) _ _ _
     (λ e. record {
       sound = λ input behind m h small f. (sym (read_one so_far m input behind f).0, eqb-true (length so_far.codes) (length so_far.funcs) e);
-      complete = λ input m open_ small p. (input, read_same so_far m input input (sym p.0) refl);
+      complete = λ input m unbounded small p. (input, read_same so_far m input input (sym p.0) refl);
     })
     (λ e. failing_to_end CountMismatch place _ (λ m bytes p. eqb-false (length so_far.codes) (length so_far.funcs) e p.1)))
 
@@ -148,18 +148,20 @@ module _ (fuel : ℕ) (more : ℕ → WModule → Reader WModule) (k : (last : �
   end_or_section last so_far = record {
     sound = λ input behind m h small e.
         elim (from_test (is_empty input) _ _ _ e) as (λ _. InOrder last so_far m input.rest) [
-          inl q ↦
-            let p = (the_end (suc fuel) so_far).sound input behind m h small q.1 in
-            at_end p.0 p.1 (no_bytes input.rest q.0)
-        | inr q ↦ rolled ((one_section last so_far).sound input behind m h small q.1) ];
-    complete = λ input m open_ small l.
+          | inl q ↦
+              let p = (the_end (suc fuel) so_far).sound input behind m h small q.1 in
+              at_end p.0 p.1 (no_bytes input.rest q.0)
+          | inr q ↦ rolled ((one_section last so_far).sound input behind m h small q.1)
+        ];
+    complete = λ input m unbounded small l.
         elim (unrolled l) as (λ _. (behind : Input) × ((if is_empty input then module_at_end so_far input else (section_from more last so_far) input) ≡ Ok (m, behind))) [
-          inl p ↦
-            let done = (the_end (suc fuel) so_far).complete input m open_ small (p.0, p.1) in
-            (done.0, cond-true (is_empty input) _ _ (ap (λ (bytes : List ℕ). length bytes == 0) p.2) ∙ done.1)
-        | inr p ↦
-            let done = (one_section last so_far).complete input m open_ small p in
-            (done.0, cond-false (is_empty input) _ _ (some_bytes input.rest p.1) ∙ done.1) ];
+          | inl p ↦
+              let done = (the_end (suc fuel) so_far).complete input m unbounded small (p.0, p.1) in
+              (done.0, cond-true (is_empty input) _ _ (ap (λ (bytes : List ℕ). length bytes == 0) p.2) ∙ done.1)
+          | inr p ↦
+              let done = (one_section last so_far).complete input m unbounded small p in
+              (done.0, cond-false (is_empty input) _ _ (some_bytes input.rest p.1) ∙ done.1)
+        ];
   }
 
 -- sections up to the end
@@ -168,9 +170,10 @@ sections zero last so_far = record {
   sound = λ input behind m h small e.
       let p = (the_end zero so_far).sound input behind m h small e in
       at_end p.0 p.1 (no_more input.rest small);
-  complete = λ input m open_ small l.
+  complete = λ input m unbounded small l.
       elim (unrolled l) as (λ _. (behind : Input) × (module_at_end so_far input ≡ Ok (m, behind))) [
-        inl p ↦ (the_end zero so_far).complete input m open_ small (p.0, p.1)
-      | inr p ↦ absurd (some_not_none input.rest small p.1) ];
+        | inl p ↦ (the_end zero so_far).complete input m unbounded small (p.0, p.1)
+        | inr p ↦ absurd (some_not_none input.rest small p.1)
+      ];
 }
 sections (suc fuel) last so_far = end_or_section fuel (sections_at fuel) (λ i m. sections fuel i m) last so_far

@@ -14,13 +14,13 @@ use Rattle.wasm_grammar.specs.CanonicalModules.{preamble}
 use Rattle.wasm_grammar.specs.Nesting.{nesting, nesting_limit, NestsAtMost}
 use Rattle.wasm_grammar.specs.ProfileInstructions.{IsShortListOf, ConstantFits}
 use Rattle.wasm_grammar.specs.Profile.{IsInProfile, GlobalFits, ElementFits, CodeFits, SegmentFits}
-use Rattle.wasm_grammar.specs.GrammarValues.{Joined, IsByte, IsExactly, IsEach}
-use Rattle.wasm_grammar.specs.GrammarModules.{IsCustomSection, AreCustomSections, AreSections, IsModule, SpellsModule}
+use Rattle.wasm_grammar.specs.GrammarValues.{Joined, IsExactly}
+use Rattle.wasm_grammar.specs.GrammarModules.{AreCustomSections, AreSections}
 use Rattle.wasm_reading.specs.declared.fault.DecodeError.{DecodeError}
 use Rattle.wasm_reading.specs.declared.fault.DecodeFault.TheVariants.{BadMagic, BadVersion}
-use Rattle.wasm_reading.specs.Readers.{Input, Reader, ◌>>=◌}
-use Rattle.wasm_reading.specs.ReadModules.{preamble_at, sections_at, empty_module, module_at, without_rest, reading_of}
-use Rattle.wasm_reading_values.specs.Exactness.{AreBytes, Exact}
+use Rattle.wasm_reading.specs.Readers.{Input}
+use Rattle.wasm_reading.specs.ReadModules.{preamble_at, sections_at, empty_module, module_at, without_rest}
+use Rattle.wasm_reading_values.specs.Exactness.{Exact}
 use Rattle.wasm_reading_values.proofs.Compose.{alike, giving, failing, branch, placed, followed}
 use Rattle.wasm_reading_values.proofs.ExactNumbers.{one_byte}
 use Rattle.wasm_reading_bodies.proofs.Spelled.{constants_nest_none}
@@ -28,7 +28,7 @@ use Rattle.wasm_reading_laws.specs.ModulesRead.{ReadIsSpelled, SpelledIsRead}
 use Rattle.wasm_reading_laws.proofs.ToEnd.{ToEnd, alike_to_end, followed_to_end}
 use Rattle.wasm_reading_laws.proofs.Contents.{types_field, imports_field, funcs_field, tables_field, memories_field, globals_field, exports_field, start_field, elements_field, codes_field, segments_field}
 use Rattle.wasm_reading_laws.proofs.Loops.{InOrder, at_end, custom, section, sections}
-use Rattle.wasm_reading_laws.proofs.Rows.{up_to, HasCounts, Row, row_before, customs_first}
+use Rattle.wasm_reading_laws.proofs.Rows.{HasCounts, Row, row_before, customs_first}
 use Rattle.wasm_reading_laws.proofs.Slots.{types_slot, imports_slot, funcs_slot, tables_slot, memories_slot, globals_slot, exports_slot, start_slot, elements_slot, codes_slot, segments_slot}
 
 -- behind the last section
@@ -141,7 +141,7 @@ module_read most =
     by_length : ToEnd most (λ input. sections_at (length input.rest) 0 empty_module input) (InOrder 0 empty_module)
     by_length = record {
       sound = λ input behind m h small e. (sections (length input.rest) 0 empty_module).sound input behind m h (omega arith) e;
-      complete = λ input m open_ small p. (sections (length input.rest) 0 empty_module).complete input m open_ (omega arith) p;
+      complete = λ input m unbounded small p. (sections (length input.rest) 0 empty_module).complete input m unbounded (omega arith) p;
     }
 
 -- the input of a reading

@@ -4,7 +4,7 @@ use Rattle.std.proofs.Common.{◌≡◌, ◌∙◌, ℕ, ◌+◌, ◌<◌, ◌�
 use Rattle.std.specs.Prelude.{◌⊎◌, ◌==◌, nat_lt, Bool, true, false, if◌then◌else◌}
 use Rattle.std.proofs.lemmas.Bool.{eqb-true, eqb-false}
 use Rattle.wasm_ast.specs.declared.modules.WModule.{WModule}
-use Rattle.wasm_grammar.specs.GrammarValues.{Joined, ◌followed_by◌, IsByte, IsEach, IsSized}
+use Rattle.wasm_grammar.specs.GrammarValues.{Joined, ◌followed_by◌, IsEach, IsSized}
 use Rattle.wasm_grammar.specs.GrammarModules.{IsSection, IsOptionalSection, IsCustomSection, AreCustomSections}
 use Rattle.wasm_reading_laws.proofs.Contents.{Field, Adds}
 use Rattle.wasm_reading_laws.proofs.Loops.{InOrder, at_end, custom, section}
@@ -111,8 +111,8 @@ module _ (k : ℕ) {T : Type 0} (f : Field T) (s : Slot k f) (Fits : WModule →
       let q = p.second in
       let a = s.from_added so_far with_it q.content q.spelled in
       let x = a.0 in
-      let higher : with_it ≡ up_to (k + 1) with_it =
-          a.1 ∙ ap (λ n. f.put x n) e ∙ sym (s.put_higher x so_far) ∙ ap (λ n. up_to (k + 1) (f.put x n)) (sym e) ∙ ap (λ n. up_to (k + 1) n) (sym a.1) in
+      let made : with_it ≡ f.put x (up_to k so_far) = a.1 ∙ ap (λ n. f.put x n) e in
+      let higher : with_it ≡ up_to (k + 1) with_it = made ∙ sym (s.put_higher x so_far) ∙ ap (λ n. up_to (k + 1) n) (sym made) in
       let rest = r.sound with_it m back higher l in
       let same : f.get m ≡ x = sym (s.there m) ∙ ap (λ n. f.get n) (rest.0 ∙ a.1) ∙ s.put_get x so_far in
       let low : up_to k m ≡ so_far = sym (s.lower m) ∙ ap (λ n. up_to k n) (rest.0 ∙ a.1) ∙ s.put_lower x so_far ∙ sym e in
@@ -127,21 +127,23 @@ module _ (k : ℕ) {T : Type 0} (f : Field T) (s : Slot k f) (Fits : WModule →
       (q.0, q.1, more_custom inner front back p q.2 w)
   sound_by {so_far = so_far} {m = m} {bytes = bytes} (section id with_it front back lt le p l w) same h =
       elim (next_or_more k id (omega arith)) as (λ _. IsSound k f Fits Spells so_far m bytes) [
-        inl e ↦ present so_far with_it m bytes front back h (subst (λ (i : ℕ). IsSection i (Adds i so_far with_it) front) e p) (subst (λ (i : ℕ). InOrder i with_it m back) e l) w
-      | inr more ↦ absent so_far m bytes h (section id with_it front back more le p l w) ]
+        | inl e ↦ present so_far with_it m bytes front back h (subst (λ (i : ℕ). IsSection i (Adds i so_far with_it) front) e p) (subst (λ (i : ℕ). InOrder i with_it m back) e l) w
+        | inr more ↦ absent so_far m bytes h (section id with_it front back more le p l w)
+      ]
 
   -- the section or nothing, and what stands behind it, in order
   from_section : (m : WModule) (bytes : List ℕ) → HasCounts m → f.Fits (f.get m) → Fits m → (IsOptionalSection (k + 1) (f.Content (f.get m)) (f.get m ≡ f.none) followed_by Spells m) bytes → InOrder k (up_to k m) m bytes
   from_section m bytes counts fits others p =
       elim p.first as (λ _. InOrder k (up_to k m) m bytes) [
-        inl there ↦
-          let q = there.second in
-          let inner : IsSized (Adds (k + 1) (up_to k m) (up_to (k + 1) m)) there.back = record { size = q.size; content = q.content; measured = q.measured; spelled = s.to_added m q.content counts fits q.spelled; whole = q.whole } in
-          section (k + 1) (up_to (k + 1) m) p.front p.back (omega arith) s.in_range (record { front = there.front; back = there.back; first = there.first; second = inner; whole = there.whole }) rest p.whole
-      | inr none ↦
-          let same : up_to (k + 1) m ≡ up_to k m = sym (s.put_next m) ∙ ap (λ x. f.put x (up_to k m)) none.0 ∙ s.put_none m in
-          let all : bytes ≡ p.back = p.whole ∙ ap (λ (xs : List ℕ). xs ++ p.back) none.1 in
-          subst (λ (xs : List ℕ). InOrder k (up_to k m) m xs) (sym all) (subst (λ n. InOrder k n m p.back) same (lesser k (omega arith) rest)) ]
+        | inl there ↦
+            let q = there.second in
+            let inner : IsSized (Adds (k + 1) (up_to k m) (up_to (k + 1) m)) there.back = record { size = q.size; content = q.content; measured = q.measured; spelled = s.to_added m q.content counts fits q.spelled; whole = q.whole } in
+            section (k + 1) (up_to (k + 1) m) p.front p.back (omega arith) s.in_range (record { front = there.front; back = there.back; first = there.first; second = inner; whole = there.whole }) rest p.whole
+        | inr none ↦
+            let same : up_to (k + 1) m ≡ up_to k m = sym (s.put_next m) ∙ ap (λ x. f.put x (up_to k m)) none.0 ∙ s.put_none m in
+            let all : bytes ≡ p.back = p.whole ∙ ap (λ (xs : List ℕ). xs ++ p.back) none.1 in
+            subst (λ (xs : List ℕ). InOrder k (up_to k m) m xs) (sym all) (subst (λ n. InOrder k n m p.back) same (lesser k (omega arith) rest))
+      ]
     where
       rest : InOrder (k + 1) (up_to (k + 1) m) m p.back
       rest = r.complete m p.back counts others p.second

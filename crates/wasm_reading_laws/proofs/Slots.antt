@@ -1,7 +1,6 @@
 -- The field of each section. Each line computes, since the ids are numerals.
-use Rattle.std.proofs.Common.{◌≡◌, ℕ, ◌^◌, ◌<◌, List, [], length, refl, ap, lit≤, Option, None, Some}
+use Rattle.std.proofs.Common.{◌≡◌, ℕ, List, [], refl, ap, lit≤, Option, None, Some}
 use Rattle.std.proofs.lemmas.List.Elements.{All-nil}
-use Rattle.wasm_ast.specs.declared.modules.WModule.{WModule}
 use Rattle.wasm_grammar.specs.ProfileInstructions.{IsShortListOf, FitsU32}
 use Rattle.wasm_grammar.specs.Profile.{OptionFits}
 use Rattle.wasm_grammar.specs.GrammarModules.{IsStart}

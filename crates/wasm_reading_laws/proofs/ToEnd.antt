@@ -16,14 +16,14 @@ pub record ToEnd (most : ℕ) {A : Type 0} (read : Reader A) (Spells : A → Lis
 pub alike_to_end : {most : ℕ} {A : Type 0} {read : Reader A} {P Q : A → List ℕ → Type 0} → ToEnd most read P → ((a : A) (bytes : List ℕ) → P a bytes → Q a bytes) → ((a : A) (bytes : List ℕ) → Q a bytes → P a bytes) → ToEnd most read Q
 alike_to_end k f g = record {
   sound = λ input behind a h small e. f a input.rest (k.sound input behind a h small e);
-  complete = λ input a open_ small p. k.complete input a open_ small (g a input.rest p);
+  complete = λ input a unbounded small p. k.complete input a unbounded small (g a input.rest p);
 }
 
 -- a fault, where no value has a spelling
 pub failing_to_end : {most : ℕ} {A : Type 0} (fault : DecodeFault) (place : ℕ) (P : A → List ℕ → Type 0) → ((a : A) (bytes : List ℕ) → P a bytes → ⊥) → ToEnd most (fail fault place) P
 failing_to_end fault place P none = record {
   sound = λ input behind a h small e. absurd (cc);
-  complete = λ input a open_ small p. absurd (none a input.rest p);
+  complete = λ input a unbounded small p. absurd (none a input.rest p);
 }
 
 -- what reads differently by a test
@@ -35,7 +35,7 @@ branch_to_end false x y P k l = l refl
 pub placed_to_end : {most : ℕ} {A : Type 0} (next : ℕ → Reader A) (P : A → List ℕ → Type 0) → ((place : ℕ) → ToEnd most (next place) P) → ToEnd most (here >>= next) P
 placed_to_end next P k = record {
   sound = λ input behind a h small e. (k input.at).sound input behind a h small e;
-  complete = λ input a open_ small p. (k input.at).complete input a open_ small p;
+  complete = λ input a unbounded small p. (k input.at).complete input a unbounded small p;
 }
 
 -- an exact reader, and one to the end behind it, which may need room for fewer bytes
@@ -46,12 +46,12 @@ followed_to_end {most} less {first = first} {First = First} next Next smaller k 
       let s = k.sound input r.1 r.0 h r.2 in
       let left = smaller r.0 s.front r.1.rest s.holds (subst (λ (bytes : List ℕ). length bytes ≤ most) s.whole small) in
       (r.0, record { front = s.front; back = r.1.rest; first = s.holds; second = (l r.0).sound r.1 behind b (behind_took s h) left r.3; whole = s.whole });
-  complete = λ input b open_ small p.
+  complete = λ input b unbounded small p.
       let a = p.0 in
       let q = p.1 in
       let middle : Input = record { at = input.at + length q.front; end = input.end; rest = q.back } in
       let t : Took (First a) input middle = record { front = q.front; holds = q.first; whole = q.whole; place = refl; same_end = refl } in
       let left = smaller a q.front q.back q.first (subst (λ (bytes : List ℕ). length bytes ≤ most) q.whole small) in
-      let done = (l a).complete middle b open_ left q.second in
-      (done.0, ap (λ r. and_then r next) (k.complete input middle a t (subst (λ (end : Option ℕ). IsBy end middle.at) (sym open_) tt) tt) ∙ done.1);
+      let done = (l a).complete middle b unbounded left q.second in
+      (done.0, ap (λ r. and_then r next) (k.complete input middle a t (subst (λ (end : Option ℕ). IsBy end middle.at) (sym unbounded) tt) tt) ∙ done.1);
 }

@@ -1,1 +1,2 @@
 pub mod ModulesRead
+pub mod WorkedModulesRead
