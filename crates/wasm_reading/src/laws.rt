@@ -1,0 +1,19 @@
+ghost use Rattle.wasm_reading.specs.Laws.{InstructionsNeedNoMore, SectionsNeedNoMore};
+ghost use Rattle.wasm_reading.specs.WorkedReadings.{TwoByteCount, LastByteTooGreat, IdDoesNotRise, FloatInABody, TooManyPages, CustomSectionTooLong, ContentStopsEarly};
+
+/// Byte lists that are written out: a module, and six first faults with their places.
+pub fn worked_readings()
+    ensures two_byte_count { TwoByteCount }
+    ensures last_byte_too_great { LastByteTooGreat }
+    ensures id_does_not_rise { IdDoesNotRise }
+    ensures float_in_a_body { FloatInABody }
+    ensures too_many_pages { TooManyPages }
+    ensures custom_section_too_long { CustomSectionTooLong }
+    ensures content_stops_early { ContentStopsEarly }
+{}
+
+/// A law: the numbers that bound how many instructions and sections are read bound nothing that bytes can hold.
+pub fn bytes_bound_reading()
+    ensures instructions { InstructionsNeedNoMore }
+    ensures sections { SectionsNeedNoMore }
+{}

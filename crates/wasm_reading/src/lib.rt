@@ -1,0 +1,10 @@
+//! What reading the bytes of a WebAssembly module gives: its tree, or the first fault and its place. Definitions.
+#![tactic(auto)]
+
+mod fault;
+mod kinds;
+mod laws;
+
+pub use fault::{DecodeError, DecodeFault};
+pub use kinds::ImmediateKind;
+pub use laws::{bytes_bound_reading, worked_readings};

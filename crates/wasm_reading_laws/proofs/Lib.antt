@@ -1,0 +1,9 @@
+pub mod ToEnd
+pub mod Contents
+pub mod Loops
+pub mod Rows
+pub mod Slots
+pub mod Modules
+pub mod FaultBounds
+pub mod FaultsOfEntries
+pub mod Faults

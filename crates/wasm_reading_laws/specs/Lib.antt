@@ -1,0 +1,2 @@
+pub mod ModulesRead
+pub mod WorkedModulesRead

@@ -1,0 +1,34 @@
+// Laws of reading: the reading of a module is the grammar.
+
+ghost use Rattle.wasm_reading_laws.specs.ModulesRead.{CanonicalBytesAreRead, FaultIsInBytes, ModuleOrFault, NeverBoth, NeverOfMemory, OneFirstFault, ReadIsSpelled, SpelledIsRead};
+ghost use Rattle.wasm_reading_laws.specs.WorkedModulesRead.{FullModuleIsRead, PaddedModuleIsRead};
+
+/// A law: what is read from bytes is the module that they spell, and a module that bytes spell is read from them
+/// (WebAssembly Core Specification 1.0, section 5.5, within this project's profile).
+pub fn reading_is_the_grammar()
+    ensures read { ReadIsSpelled }
+    ensures spelled { SpelledIsRead }
+{}
+
+/// A law: bytes spell a module, or have a first fault, and never both; they have one first fault at most, at one
+/// place, which is in the bytes or at their end; and it is never want of memory. This project's own.
+pub fn a_module_or_one_first_fault()
+    ensures either { ModuleOrFault }
+    ensures never_both { NeverBoth }
+    ensures one { OneFirstFault }
+    ensures not_memory { NeverOfMemory }
+    ensures place { FaultIsInBytes }
+{}
+
+/// A law: a module of the profile, each of whose sections has a content of fewer than 2^32 bytes, is read from its
+/// canonical bytes. This project's own.
+pub fn canonical_bytes_are_read()
+    ensures { CanonicalBytesAreRead }
+{}
+
+/// Byte lists that are written out, and the modules that are read from them: one with longer numbers and two custom
+/// sections, and one with a section of each kind.
+pub fn worked_modules_are_read()
+    ensures padded { PaddedModuleIsRead }
+    ensures full { FullModuleIsRead }
+{}

@@ -1,0 +1,4 @@
+pub mod Exactness
+pub mod ValuesRead
+pub mod TypesRead
+pub mod EntriesRead
