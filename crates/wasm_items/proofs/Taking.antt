@@ -1,0 +1,42 @@
+-- How readers that are made of others take a byte: each step of a state is one of these lemmas.
+-- Each is the definition of its reader, at the byte.
+use Rattle.std.proofs.Common.{◌≡◌, ℕ, ◌+◌, Bool, cond, Result, Ok, Err, ap, sym}
+use Rattle.std.specs.Result.{IsErrAnd}
+use Rattle.wasm_reading.specs.declared.fault.DecodeError.{DecodeError}
+use Rattle.wasm_reading.specs.declared.fault.DecodeFault.{DecodeFault}
+use Rattle.wasm_reading.specs.declared.fault.DecodeFault.TheVariants.{BadLength}
+use Rattle.wasm_reading.specs.Readers.{Reader, and_then, ◌>>=◌, here, byte_at}
+use Rattle.wasm_reading.specs.ReadValues.{tag_at, tagged}
+use Rattle.wasm_items.specs.declared.progress.Progress.{Progress}
+use Rattle.wasm_items.specs.Residuals.{Takes, stop, answered}
+
+-- A byte is read.
+pub takes_byte : {A : Type 0} (b at : ℕ) (f : ℕ → Reader A) → Takes (byte_at >>= f) b at (f b)
+takes_byte b at f = record {
+  same = λ end bs before.
+      ap (λ (c : Bool). and_then (cond c (Err (record { at = at; fault = BadLength })) (Ok (b, record { at = at + 1; end = end; rest = bs }))) f) before;
+}
+
+-- The place is known.
+pub takes_here : {A : Type 0} {b at : ℕ} {new : Reader A} (f : ℕ → Reader A) → Takes (f at) b at new → Takes (here >>= f) b at new
+takes_here f t = record { same = t.same }
+
+-- What is read behind is still to be read.
+pub takes_then : {A B : Type 0} {old new : Reader A} {b at : ℕ} (f : A → Reader B) → Takes old b at new → Takes (old >>= f) b at (new >>= f)
+takes_then f t = record { same = λ end bs before. ap (λ done. and_then done f) (t.same end bs before) }
+
+-- The same in other words.
+pub takes_as : {A : Type 0} {old new other : Reader A} {b at : ℕ} → new ≡ other → Takes old b at new → Takes old b at other
+takes_as e t = rw e at t
+
+pub takes_of : {A : Type 0} {old other new : Reader A} {b at : ℕ} → other ≡ old → Takes old b at new → Takes other b at new
+takes_of e t = rw e t
+
+-- A byte by a table.
+pub takes_tag : {A : Type 0} (b at : ℕ) (of : ℕ → Result A DecodeFault) → Takes (tag_at of) b at (tagged at (of b))
+takes_tag b at of = takes_here (λ place. byte_at >>= (λ b. tagged place (of b))) (takes_byte b at (λ b. tagged at (of b)))
+
+-- The exit of a `?`: the fault is that of the callee.
+pub takes_exit : {S A : Type 0} {old : Reader A} {b at : ℕ} (rest_of : S → Reader A) (answer : Result (Progress S A) DecodeError) {e : DecodeError} → IsErrAnd answer (λ given. given ≡ e) → Takes old b at (stop e) → Takes old b at (answered rest_of answer)
+takes_exit rest_of (Ok progress) is t = absurd is
+takes_exit rest_of (Err given) is t = takes_as (ap stop (sym is)) t
