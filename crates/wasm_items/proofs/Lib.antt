@@ -1,4 +1,4 @@
 pub mod ReaderLaws
 pub mod Taking
-pub mod Hunger
 pub mod LebSteps
+pub mod VectorSteps

@@ -1,2 +1,4 @@
 pub mod Residuals
 pub mod LebStates
+pub mod Hunger
+pub mod Vectors
