@@ -1,0 +1,3 @@
+pub mod FuncTypeStates
+pub mod ExportStates
+pub mod ImportStates
