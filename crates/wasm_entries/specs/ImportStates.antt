@@ -16,7 +16,7 @@ use Rattle.wasm_items.specs.LebStates.{rest_of_leb}
 use Rattle.wasm_items.specs.LimitsStates.{rest_of_limits, rest_of_table, hungry_limits, hungry_table}
 use Rattle.wasm_items.specs.NameStates.{rest_of_name, hungry_name}
 use Rattle.wasm_entries.specs.declared.import.ImportKindState.{ImportKindState}
-use Rattle.wasm_entries.specs.declared.import.ImportKindState.TheVariants.{Func, Table, Memory, GlobalType, Mutability}
+use Rattle.wasm_entries.specs.declared.import.ImportKindState.TheVariants.{Func, Table, Memory, ValueType, Mutability}
 use Rattle.wasm_entries.specs.declared.import.ImportState.{ImportState}
 use Rattle.wasm_entries.specs.declared.import.ImportState.TheVariants.{Module, Name, Kind, What}
 
@@ -42,7 +42,7 @@ abbrev pub rest_of_import_kind : ImportKindState → Reader ImportKind
 rest_of_import_kind (Func number) = rest_of_leb number >>= give_func
 rest_of_import_kind (Table table) = rest_of_table table >>= give_table
 rest_of_import_kind (Memory memory) = rest_of_limits memory.limits >>= give_memory
-rest_of_import_kind GlobalType = tag_at value_type_of >>= behind_type
+rest_of_import_kind ValueType = tag_at value_type_of >>= behind_type
 rest_of_import_kind (Mutability t) = behind_type t
 
 -- it wants a byte
@@ -50,7 +50,7 @@ pub hungry_import_kind : (state : ImportKindState) → IsHungry (rest_of_import_
 hungry_import_kind (Func number) = hungry_then give_func (hungry_leb number)
 hungry_import_kind (Table table) = hungry_then give_table (hungry_table table)
 hungry_import_kind (Memory memory) = hungry_then give_memory (hungry_limits memory.limits)
-hungry_import_kind GlobalType = hungry_then behind_type (hungry_tag value_type_of)
+hungry_import_kind ValueType = hungry_then behind_type (hungry_tag value_type_of)
 hungry_import_kind (Mutability t) = hungry_then (give_global t) (hungry_tag flag_of)
 
 -- the import of these names

@@ -1,3 +1,6 @@
 pub mod FuncTypeStates
-pub mod ExportStates
 pub mod ImportStates
+pub mod ExportStates
+pub mod GlobalStates
+pub mod ElementStates
+pub mod SegmentStates

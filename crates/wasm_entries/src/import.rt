@@ -18,7 +18,7 @@ pub enum ImportKindState {
     Table(TableState),
     Memory(MemoryState),
     /// The value type of a global.
-    GlobalType,
+    ValueType,
     /// Whether a global of this type is mutable.
     Mutability(ValTy),
 }
@@ -32,7 +32,7 @@ impl ImportKindState {
             ExportKind::Func => ImportKindState::Func(Leb32::unsigned()),
             ExportKind::Table => ImportKindState::Table(TableState::start(alloc)),
             ExportKind::Memory => ImportKindState::Memory(MemoryState::start(alloc)),
-            ExportKind::Global => ImportKindState::GlobalType,
+            ExportKind::Global => ImportKindState::ValueType,
         }
     }
 
@@ -54,7 +54,7 @@ impl ImportKindState {
                 Progress::More(memory) => Ok(Progress::More(ImportKindState::Memory(memory))),
                 Progress::Done(limits) => Ok(Progress::Done(ImportKind::Memory(limits))),
             },
-            ImportKindState::GlobalType => Ok(Progress::More(ImportKindState::Mutability(value_type(
+            ImportKindState::ValueType => Ok(Progress::More(ImportKindState::Mutability(value_type(
                 byte, at,
             )?))),
             ImportKindState::Mutability(ty) => Ok(Progress::Done(ImportKind::Global(
