@@ -3,7 +3,7 @@ ghost use Rattle.wasm_entries.specs.ElementStates.{rest_of_element, behind_table
 
 use std::alloc::Global;
 use wasm_ast::{ElemSeg, WInstr};
-use wasm_items::{ConstantState, Item, Leb32, Progress, VectorState};
+use wasm_items::{ConstantState, Item, Leb32, Numbers, Progress};
 use wasm_reading::DecodeError;
 
 /// An element segment in the middle (WebAssembly Core Specification 1.0, section 5.5.12).
@@ -17,7 +17,7 @@ pub enum ElementState {
     Funcs {
         table: u32,
         offset: WInstr,
-        funcs: VectorState<Leb32>,
+        funcs: Numbers,
     },
 }
 
@@ -83,6 +83,6 @@ fn funcs_behind(alloc: Global, table: u32, offset: WInstr) -> ElementState
     ElementState::Funcs {
         table,
         offset,
-        funcs: VectorState::start(alloc),
+        funcs: Numbers::start(alloc),
     }
 }

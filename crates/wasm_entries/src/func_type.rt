@@ -1,24 +1,21 @@
-ghost use Rattle.wasm_items.specs.Residuals.{Pushes};
-ghost use Rattle.wasm_entries.specs.FuncTypeStates.{rest_of_func_type};
+ghost use Rattle.std.specs.Prelude.{◌≡◌};
+ghost use Rattle.wasm_entries.specs.FuncTypeStates.{rest_of_func_type, count_at};
 
 use std::alloc::Global;
 use wasm_ast::{FuncType, List, ValTy};
-use wasm_items::{Item, Leb32, Progress, ValueTypeState, VectorState, only, value_type};
-use wasm_reading::{DecodeError, DecodeFault};
+use wasm_items::{BoundedState, Item, Progress, ValueTypeState, VectorState, only, value_type};
+use wasm_reading::DecodeError;
 
-/// A function type in the middle (WebAssembly Core Specification 1.0, section 5.3.3).
+/// A function type in the middle (WebAssembly Core Specification 1.0, section 5.3.3); it has one result at most
+/// (section 2.3.3).
 #[derive(Drop)]
 pub enum FuncTypeState {
     /// The byte of function types.
     Form(Global),
     Params(VectorState<ValueTypeState>),
-    /// The count of results, whose first byte stands at this place.
-    Count {
-        params: List<ValTy>,
-        place: u64,
-        number: Leb32,
-    },
-    /// The type of the result.
+    /// The count of results, behind these parameters.
+    Count(List<ValTy>, BoundedState),
+    /// The type of the result, behind these parameters.
     Result(List<ValTy>),
 }
 
@@ -46,17 +43,16 @@ impl Item for FuncTypeState {
             }
             FuncTypeState::Params(params) => match params.push(byte, at)? {
                 Progress::More(params) => Ok(Progress::More(FuncTypeState::Params(params))),
-                Progress::Done(params) => Ok(Progress::More(FuncTypeState::Count {
-                    params,
-                    place: at + 1,
-                    number: Leb32::unsigned(),
-                })),
+                Progress::Done(params) => Ok(Progress::More(count_behind(params, at + 1))),
             },
-            FuncTypeState::Count {
-                params,
-                place,
-                number,
-            } => push_count(params, place, number, byte, at),
+            FuncTypeState::Count(params, count) => match count.push(byte, at)? {
+                Progress::More(count) => Ok(Progress::More(FuncTypeState::Count(params, count))),
+                Progress::Done(0) => Ok(Progress::Done(FuncType {
+                    params,
+                    result: None,
+                })),
+                Progress::Done(_) => Ok(Progress::More(FuncTypeState::Result(params))),
+            },
             FuncTypeState::Result(params) => Ok(Progress::Done(FuncType {
                 params,
                 result: Some(value_type(byte, at)?),
@@ -65,30 +61,9 @@ impl Item for FuncTypeState {
     }
 }
 
-/// A byte of the count of results, behind these parameters. `LimitOutside` at the first byte of a count over 1.
-fn push_count(
-    params: List<ValTy>,
-    place: u64,
-    number: Leb32,
-    byte: u8,
-    at: u64,
-) -> Result<Progress<FuncTypeState, FuncType>, DecodeError>
-    ensures { Pushes rest_of_func_type (rest_of_func_type (FuncTypeState.Count params place number)) byte at result }
+/// The count of results, whose first byte will stand at `place`, behind these parameters.
+fn count_behind(params: List<ValTy>, place: u64) -> FuncTypeState
+    ensures { rest_of_func_type result ≡ count_at place params }
 {
-    match number.push(byte, at)? {
-        Progress::More(number) => Ok(Progress::More(FuncTypeState::Count {
-            params,
-            place,
-            number,
-        })),
-        Progress::Done(0) => Ok(Progress::Done(FuncType {
-            params,
-            result: None,
-        })),
-        Progress::Done(1) => Ok(Progress::More(FuncTypeState::Result(params))),
-        Progress::Done(_) => Err(DecodeError {
-            at: place,
-            fault: DecodeFault::LimitOutside,
-        }),
-    }
+    FuncTypeState::Count(params, BoundedState::start(1, place))
 }

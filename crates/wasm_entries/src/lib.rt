@@ -12,5 +12,5 @@ pub use element::ElementState;
 pub use export::ExportState;
 pub use func_type::FuncTypeState;
 pub use global::GlobalState;
-pub use import::{ImportKindState, ImportState};
+pub use import::ImportState;
 pub use segment::SegmentState;

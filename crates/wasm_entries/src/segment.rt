@@ -3,7 +3,7 @@ ghost use Rattle.wasm_entries.specs.SegmentStates.{rest_of_segment, behind_memor
 
 use std::alloc::Global;
 use wasm_ast::{DataSeg, WInstr};
-use wasm_items::{ByteState, ConstantState, Item, Leb32, Progress, VectorState};
+use wasm_items::{ByteVector, ConstantState, Item, Leb32, Progress};
 use wasm_reading::DecodeError;
 
 /// A data segment in the middle (WebAssembly Core Specification 1.0, section 5.5.14).
@@ -16,7 +16,7 @@ pub enum SegmentState {
     Bytes {
         memory: u32,
         offset: WInstr,
-        bytes: VectorState<ByteState>,
+        bytes: ByteVector,
     },
 }
 
@@ -82,6 +82,6 @@ fn bytes_behind(alloc: Global, memory: u32, offset: WInstr) -> SegmentState
     SegmentState::Bytes {
         memory,
         offset,
-        bytes: VectorState::start(alloc),
+        bytes: ByteVector::start(alloc),
     }
 }
