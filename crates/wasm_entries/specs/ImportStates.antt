@@ -20,16 +20,19 @@ use Rattle.wasm_entries.specs.declared.import.ImportKindState.TheVariants.{Func,
 use Rattle.wasm_entries.specs.declared.import.ImportState.{ImportState}
 use Rattle.wasm_entries.specs.declared.import.ImportState.TheVariants.{Module, Name, Kind, What}
 
--- a function, a table, a memory and a global, which are imported
+-- an imported function
 abbrev pub give_func : ℕ → Reader ImportKind
 give_func n = give (imports.Func n)
 
+-- an imported table
 abbrev pub give_table : ast.Limits → Reader ImportKind
 give_table limits = give (imports.Table limits)
 
+-- an imported memory
 abbrev pub give_memory : ast.Limits → Reader ImportKind
 give_memory limits = give (imports.Memory limits)
 
+-- an imported global
 abbrev pub give_global : ValTy → Bool → Reader ImportKind
 give_global t mutable = give (imports.Global t mutable)
 
