@@ -1,0 +1,3 @@
+pub mod Stacks
+pub mod OpenLists
+pub mod Tokens
