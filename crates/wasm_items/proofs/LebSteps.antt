@@ -1,26 +1,18 @@
 -- How a number in the middle takes a byte, and that its parts keep their bounds: by the definition of a number, and
 -- by 2 ^ bits being 128 times 2 ^ (bits - 7).
-use Rattle.std.proofs.Common.{◌≡◌, ◌∙◌, ℕ, suc, ◌+◌, ◌-◌, ◌*◌, ◌/◌, ◌^◌, ◌<◌, ◌≤◌, Bool, true, false, cond, Option, Some, ap, arith, ltb}
+use Rattle.std.proofs.Common.{◌≡◌, ◌∙◌, ℕ, suc, ◌+◌, ◌-◌, ◌*◌, ◌/◌, ◌^◌, ◌<◌, ◌≤◌, Bool, true, false, Option, Some, ap, arith, ltb}
 use Rattle.std.proofs.Math.Nat.{mul-le-mul_left}
 use Rattle.std.proofs.Math.Pow.{pow_mono}
 use Rattle.std.proofs.lemmas.Nat.{pow-add}
 use Rattle.std.proofs.lemmas.Bool.{cond-true, cond-false, lt-ltb, le-ltb}
 use Rattle.std.proofs.lemmas.Bool.Decides.{nat_tests}
 use Rattle.wasm_leb.proofs.Least.{narrower}
-use Rattle.wasm_reading.specs.declared.fault.DecodeFault.TheVariants.{BadLeb}
-use Rattle.wasm_reading.specs.Readers.{Reader, ◌>>=◌, give, fail, byte_at}
-use Rattle.wasm_reading.specs.ReadValues.{number_at, number_or, unsigned_end, signed_end}
-use Rattle.wasm_items.specs.LebStates.{LebState, number_end, bits_at, rest_of_leb}
-use Rattle.wasm_items.specs.Residuals.{Takes, IsHungry}
-use Rattle.wasm_items.proofs.Hunger.{hungry_byte, hungry_then, hungry_here}
+use Rattle.wasm_reading.specs.Readers.{◌>>=◌, give, byte_at}
+use Rattle.wasm_reading.specs.ReadValues.{number_at, unsigned_end, signed_end}
+use Rattle.wasm_items.specs.LebStates.{LebState, number_end, bits_at, number_behind, rest_of_leb}
+use Rattle.wasm_items.specs.Residuals.{Takes}
 use Rattle.wasm_items.proofs.ReaderLaws.{then_give, then_then, then_same}
 use Rattle.wasm_items.proofs.Taking.{takes_byte, takes_here, takes_then, takes_as}
-
--- what stands behind a byte of a number
-abbrev number_behind : (ℕ → ℕ → Option ℕ) → ℕ → ℕ → ℕ → ℕ → Reader ℕ
-number_behind end_of most limit at b =
-    cond (ltb b 128) (number_or at (end_of limit b))
-    (cond (ltb 128 limit) (number_at end_of most (limit / 128) >>= (λ m. give (b - 128 + 128 * m))) (fail BadLeb at))
 
 takes_number : (end_of : ℕ → ℕ → Option ℕ) (most limit b at : ℕ) → Takes (number_at end_of (suc most) limit) b at (number_behind end_of most limit at b)
 takes_number end_of most limit b at =
@@ -98,10 +90,3 @@ pub whole_number : (bits : ℕ) (is_signed : Bool) → rest_of_leb (record { sum
 unfolding rest_of_leb
 whole_number bits is_signed =
     then_same (bits_at is_signed bits) (λ m. give (0 + 1 * m)) give (λ m. ap give (omega arith)) ∙ then_give (bits_at is_signed bits)
-
--- A number in the middle wants a byte.
-pub hungry_leb : (s : LebState) → IsHungry (rest_of_leb s)
-unfolding rest_of_leb
-hungry_leb s =
-    hungry_then (λ m. give (s.sum + s.scale * m))
-    (hungry_here (λ place. hungry_then (number_behind (number_end s.is_signed) ((s.bits - 1) / 7) (2 ^ s.bits) place) hungry_byte))

@@ -1,4 +1,5 @@
 pub mod ReaderLaws
 pub mod Taking
-pub mod Hunger
 pub mod LebSteps
+pub mod VectorSteps
+pub mod NamePlaces

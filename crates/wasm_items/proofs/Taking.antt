@@ -5,10 +5,10 @@ use Rattle.std.specs.Result.{IsErrAnd}
 use Rattle.wasm_reading.specs.declared.fault.DecodeError.{DecodeError}
 use Rattle.wasm_reading.specs.declared.fault.DecodeFault.{DecodeFault}
 use Rattle.wasm_reading.specs.declared.fault.DecodeFault.TheVariants.{BadLength}
-use Rattle.wasm_reading.specs.Readers.{Reader, and_then, ◌>>=◌, here, byte_at}
+use Rattle.wasm_reading.specs.Readers.{Reader, and_then, ◌>>=◌, give, here, byte_at}
 use Rattle.wasm_reading.specs.ReadValues.{tag_at, tagged}
 use Rattle.wasm_items.specs.declared.progress.Progress.{Progress}
-use Rattle.wasm_items.specs.Residuals.{Takes, stop, answered}
+use Rattle.wasm_items.specs.Residuals.{Takes, stop, answered, placed}
 
 -- A byte is read.
 pub takes_byte : {A : Type 0} (b at : ℕ) (f : ℕ → Reader A) → Takes (byte_at >>= f) b at (f b)
@@ -35,6 +35,20 @@ takes_of e t = rw e t
 -- A byte by a table.
 pub takes_tag : {A : Type 0} (b at : ℕ) (of : ℕ → Result A DecodeFault) → Takes (tag_at of) b at (tagged at (of b))
 takes_tag b at of = takes_here (λ place. byte_at >>= (λ b. tagged place (of b))) (takes_byte b at (λ b. tagged at (of b)))
+
+tagged_ok : {A : Type 0} (at : ℕ) (said : Result A DecodeFault) {x : A} → Ok x ≡ placed at said → tagged at said ≡ give x
+tagged_ok at (Ok y) e = ap give cc
+tagged_ok at (Err fault) e = cc
+
+tagged_err : {A : Type 0} (at : ℕ) (said : Result A DecodeFault) {e : DecodeError} → Err e ≡ placed at said → tagged at said ≡ stop e
+tagged_err at (Ok y) e = cc
+tagged_err at (Err fault) e = ap stop cc
+
+pub takes_tag_ok : {A : Type 0} (b at : ℕ) (of : ℕ → Result A DecodeFault) {x : A} → Ok x ≡ placed at (of b) → Takes (tag_at of) b at (give x)
+takes_tag_ok b at of e = takes_as (tagged_ok at (of b) e) (takes_tag b at of)
+
+pub takes_tag_err : {A : Type 0} (b at : ℕ) (of : ℕ → Result A DecodeFault) {e : DecodeError} → Err e ≡ placed at (of b) → Takes (tag_at of) b at (stop e)
+takes_tag_err b at of e = takes_as (tagged_err at (of b) e) (takes_tag b at of)
 
 -- The exit of a `?`: the fault is that of the callee.
 pub takes_exit : {S A : Type 0} {old : Reader A} {b at : ℕ} (rest_of : S → Reader A) (answer : Result (Progress S A) DecodeError) {e : DecodeError} → IsErrAnd answer (λ given. given ≡ e) → Takes old b at (stop e) → Takes old b at (answered rest_of answer)

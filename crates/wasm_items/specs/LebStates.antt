@@ -1,7 +1,8 @@
 -- Numbers in LEB128 in the middle (WebAssembly Core Specification 1.0, section 5.2.2); the states are this project's own.
-use Rattle.std.specs.Prelude.{ℕ, suc, ◌+◌, ◌-◌, ◌*◌, ◌/◌, ◌^◌, ◌<◌, ◌≤◌, Bool, true, false, Option}
-use Rattle.wasm_reading.specs.Readers.{Reader, ◌>>=◌, give}
-use Rattle.wasm_reading.specs.ReadValues.{number_at, unsigned_end, signed_end}
+use Rattle.std.specs.Prelude.{ℕ, suc, ◌+◌, ◌-◌, ◌*◌, ◌/◌, ◌^◌, ◌<◌, ◌≤◌, Bool, true, false, nat_lt, if◌then◌else◌, Option}
+use Rattle.wasm_reading.specs.declared.fault.DecodeFault.TheVariants.{BadLeb}
+use Rattle.wasm_reading.specs.Readers.{Reader, ◌>>=◌, give, fail}
+use Rattle.wasm_reading.specs.ReadValues.{number_at, number_or, unsigned_end, signed_end}
 use Rattle.wasm_items.specs.declared.progress.Progress.{Progress}
 use Rattle.wasm_items.specs.declared.progress.Progress.TheVariants.{More, Done}
 
@@ -16,6 +17,12 @@ pub record LebState : Type 0 where
 abbrev pub number_end : Bool → ℕ → ℕ → Option ℕ
 number_end false = unsigned_end
 number_end true = signed_end
+
+-- what is read behind a byte of a number
+abbrev pub number_behind : (ℕ → ℕ → Option ℕ) → ℕ → ℕ → ℕ → ℕ → Reader ℕ
+number_behind end_of most limit at b =
+    if nat_lt b 128 then number_or at (end_of limit b)
+    else (if nat_lt 128 limit then (do m ← number_at end_of most (limit / 128); give (b - 128 + 128 * m)) else fail BadLeb at)
 
 -- the rest of a number of so many bits, which begins with a byte
 abbrev pub bits_at : Bool → ℕ → Reader ℕ

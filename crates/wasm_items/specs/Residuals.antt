@@ -1,6 +1,7 @@
 -- Items that are read a byte at a time: what a state still reads is a reader, its residual; this project's own.
 use Rattle.std.specs.Prelude.{◌≡◌, ℕ, ◌+◌, false, List, ◌∷◌, ◌⊎◌, Option, Result, Ok, Err}
 use Rattle.wasm_reading.specs.declared.fault.DecodeError.{DecodeError}
+use Rattle.wasm_reading.specs.declared.fault.DecodeFault.{DecodeFault}
 use Rattle.wasm_reading.specs.declared.fault.DecodeFault.TheVariants.{Memory}
 use Rattle.wasm_reading.specs.Readers.{Input, Reader, give, byte_at, is_at_end}
 use Rattle.wasm_items.specs.declared.progress.Progress.{Progress}
@@ -32,10 +33,19 @@ PushesExactly rest_of old b at answer = Takes old b at (answered rest_of answer)
 abbrev pub no_memory : DecodeError
 no_memory = record { at = 0; fault = Memory }
 
+-- a fault at a byte is the residual's, or want of memory
+abbrev pub Stops : {A : Type 0} → Reader A → ℕ → ℕ → DecodeError → Type 0
+Stops old b at e = (e ≡ no_memory) ⊎ Takes old b at (stop e)
+
 -- the answer to a byte is what the residual `old` makes of it, or want of memory
 abbrev pub Pushes : {S A : Type 0} → (S → Reader A) → Reader A → ℕ → ℕ → Result (Progress S A) DecodeError → Type 0
 Pushes rest_of old b at (Ok progress) = Takes old b at (rest_behind rest_of progress)
-Pushes rest_of old b at (Err e) = (e ≡ no_memory) ⊎ Takes old b at (stop e)
+Pushes rest_of old b at (Err e) = Stops old b at e
+
+-- what a table says of the byte at a place
+abbrev pub placed : {A : Type 0} → ℕ → Result A DecodeFault → Result A DecodeError
+placed at (Ok value) = Ok value
+placed at (Err fault) = Err (record { at = at; fault = fault })
 
 -- A reader that wants a byte first: where there is none, the fault is its fault.
 pub record IsHungry {A : Type 0} (reader : Reader A) : Type 0 where

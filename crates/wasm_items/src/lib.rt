@@ -1,10 +1,24 @@
 //! Items of a WebAssembly module that are read a byte at a time.
 #![tactic(auto)]
 
+mod item;
 mod laws;
 mod leb;
+mod limits;
+mod memory;
+mod name;
+mod one_byte;
 mod progress;
+mod tags;
+mod vector;
 
+pub use item::Item;
 pub use laws::each_state_wants_a_byte;
 pub use leb::{Leb32, Leb64};
+pub use limits::{LimitsState, MemoryState, TableState};
+pub use memory::append;
+pub use name::NameState;
+pub use one_byte::{ByteState, ValueTypeState};
 pub use progress::Progress;
+pub use tags::{block_type, external_kind, flag, only, value_type};
+pub use vector::VectorState;
