@@ -1,3 +1,4 @@
 pub mod ListSteps
 pub mod OpeningSteps
 pub mod ListEnds
+pub mod LocalSteps

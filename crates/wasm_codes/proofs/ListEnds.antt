@@ -8,7 +8,7 @@ use Rattle.wasm_reading.specs.Readers.{Reader, ◌>>=◌, give, byte_at}
 use Rattle.wasm_reading.specs.ReadInstructions.{Listed, listed_from}
 use Rattle.wasm_items.specs.Residuals.{rest_behind, IsHungry}
 use Rattle.wasm_items.proofs.ReaderLaws.{then_then}
-use Rattle.wasm_items.proofs.Hunger.{hungry_byte, hungry_then, hungry_here}
+use Rattle.wasm_items.specs.Hunger.{hungry_byte, hungry_then, hungry_here}
 use Rattle.wasm_codes.specs.declared.blocks.Head.{Head}
 use Rattle.wasm_codes.specs.declared.blocks.Head.TheVariants as heads
 use Rattle.wasm_codes.specs.declared.blocks.Open.{Open}

@@ -1,3 +1,4 @@
 pub mod Stacks
 pub mod OpenLists
 pub mod Tokens
+pub mod LocalStates

@@ -5,5 +5,6 @@ ghost use Rattle.wasm_codes.specs.OpenLists.{rest_of_lists};
 
 mod blocks;
 mod lists;
+mod locals;
 mod stack;
 mod token;
