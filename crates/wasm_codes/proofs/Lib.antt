@@ -2,3 +2,4 @@ pub mod ListSteps
 pub mod OpeningSteps
 pub mod ListEnds
 pub mod LocalSteps
+pub mod SizeSteps

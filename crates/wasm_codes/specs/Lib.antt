@@ -2,3 +2,4 @@ pub mod Stacks
 pub mod OpenLists
 pub mod Tokens
 pub mod LocalStates
+pub mod Sizes
