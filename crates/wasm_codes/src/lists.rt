@@ -1,4 +1,4 @@
-ghost use Rattle.std.specs.Prelude.{◌≡◌, ◌∷◌, ◌++◌, [], IfOk, IfErr, Some, ◌⊎◌};
+ghost use Rattle.std.specs.Prelude.{◌≡◌, ◌∷◌, ◌++◌, [], IfOk, IfErr, Some, ◌⊎◌, length};
 ghost use Rattle.wasm_items.specs.Residuals.{no_memory};
 ghost use Rattle.wasm_codes.specs.OpenLists.{opened, ended, second_arm, IsNoArm};
 
@@ -32,6 +32,13 @@ impl Lists {
             around: Stack::new(alloc),
             inner: List::new(alloc),
         }
+    }
+
+    /// How many instructions are open.
+    pub fn depth(&self) -> usize
+        ensures { result ≡ length self.now.around }
+    {
+        self.around.len()
     }
 
     /// A further instruction of the innermost list. `Memory` where memory is wanting.
