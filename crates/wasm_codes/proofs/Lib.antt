@@ -3,3 +3,5 @@ pub mod OpeningSteps
 pub mod ListEnds
 pub mod LocalSteps
 pub mod SizeSteps
+pub mod PlainSteps
+pub mod Hunger

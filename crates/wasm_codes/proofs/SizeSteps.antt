@@ -1,14 +1,15 @@
 -- How a content of a declared size takes a byte: as its reader does, whose end is not behind the declared one. And
 -- what stands behind the last byte: the value, or the fault that the size is wrong.
-use Rattle.std.proofs.Common.{◌≡◌, ◌∙◌, ◌≢◌, ℕ, zero, suc, ◌+◌, ◌-◌, ◌<◌, ◌≤◌, min, List, [], ◌∷◌, Bool, true, false, cond, Option, None, Some, Result, Ok, Err, refl, ap, sym, arith, eqb}
+use Rattle.std.proofs.Common.{◌≡◌, ◌∙◌, ◌≢◌, ℕ, zero, suc, ◌+◌, ◌-◌, ◌<◌, ◌≤◌, min, List, [], ◌∷◌, Bool, true, false, cond, Option, None, Some, inr, Result, Ok, Err, refl, ap, sym, arith, eqb}
 use Rattle.std.specs.Prelude.{◌==◌}
 use Rattle.std.proofs.lemmas.Bool.Decides.{nat_tests}
 use Rattle.std.proofs.lemmas.Bool.{cond-true, cond-false}
 use Rattle.wasm_reading.specs.declared.fault.DecodeError.{DecodeError}
 use Rattle.wasm_reading.specs.declared.fault.DecodeFault.TheVariants.{BadLength, Truncated}
 use Rattle.wasm_reading.specs.Readers.{Input, Reader, and_then, ◌>>=◌, give, here, byte_at, first_byte, is_at_end, within, ended, lesser_end}
-use Rattle.wasm_items.specs.Residuals.{Takes, IsHungry, stop}
-use Rattle.wasm_codes.specs.Sizes.{IsBefore, IsWithin, TakesBefore, AlikeWithin, left_at}
+use Rattle.wasm_items.specs.Residuals.{Takes, IsHungry, stop, answered}
+use Rattle.wasm_items.specs.declared.progress.Progress.{Progress}
+use Rattle.wasm_codes.specs.Sizes.{IsBefore, IsWithin, TakesBefore, PushesBefore, AlikeWithin, left_at}
 
 not_at_end : (at : ℕ) (end : Option ℕ) (rest : List ℕ) → IsBefore at end → is_at_end (record { at = at; end = end; rest = rest }) ≡ false
 not_at_end at None rest before = refl
@@ -90,3 +91,8 @@ hungry_left left content hungry = record {
       ap (λ done. and_then done (ended input.end (input.at + (left + 1))))
       (hungry.wants inner e (rw (same_end input.at left input.end input.rest) (same_lack (is_at_end input) input.at input.end stop input.rest e lacks)));
 }
+
+-- The answer to a byte is what the residual makes of it, so it is that or want of memory.
+pub pushes_before : {S A : Type 0} {old : Reader A} {b at : ℕ} (rest_of : S → Reader A) (answer : Result (Progress S A) DecodeError) → TakesBefore old b at (answered rest_of answer) → PushesBefore rest_of old b at answer
+pushes_before rest_of (Ok progress) t = t
+pushes_before rest_of (Err e) t = inr t

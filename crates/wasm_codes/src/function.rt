@@ -1,9 +1,7 @@
 ghost use Rattle.std.specs.Prelude.{◌≡◌, ◌+◌, ◌<◌, ◌^◌};
-ghost use Rattle.wasm_reading.specs.Readers.{◌>>=◌};
 ghost use Rattle.wasm_reading.specs.ReadModules.{function_at};
-ghost use Rattle.wasm_items.specs.Residuals.{Pushes, rest_behind};
-ghost use Rattle.wasm_codes.specs.LocalStates.{rest_of_locals};
-ghost use Rattle.wasm_codes.specs.FunctionStates.{rest_of_function, behind_locals};
+ghost use Rattle.wasm_items.specs.Residuals.{Pushes};
+ghost use Rattle.wasm_codes.specs.FunctionStates.{rest_of_function, rest_behind_runs};
 
 use crate::body::Body;
 use crate::locals::{Locals, runs_from};
@@ -63,7 +61,7 @@ impl Function {
 
 /// The function behind a byte of its locals.
 fn runs_read(runs: Progress<Locals, List<LocalRun>>, alloc: Global) -> Function
-    ensures { rest_of_function result ≡ rest_behind rest_of_locals runs >>= behind_locals }
+    ensures { rest_of_function result ≡ rest_behind_runs runs }
 {
     match runs {
         Progress::More(locals) => Function::Runs(locals),
