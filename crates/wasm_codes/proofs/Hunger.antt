@@ -1,6 +1,4 @@
 -- Each state wants a byte: what it reads begins with what wants one.
-use Rattle.std.proofs.Common.{ℕ}
-use Rattle.wasm_reading.specs.Readers.{Reader, ◌>>=◌}
 use Rattle.wasm_reading.specs.ReadTypes.{block_type_of}
 use Rattle.wasm_items.specs.Residuals.{IsHungry}
 use Rattle.wasm_items.specs.Hunger.{hungry_then, hungry_tag, hungry_leb}

@@ -1,11 +1,10 @@
 -- What stands behind the end of the innermost list, or behind `else`, is what is read on; by cases on the innermost
 -- instruction. And open lists want a byte.
-use Rattle.std.proofs.Common.{◌≡◌, ◌∙◌, ℕ, suc, ◌+◌, List, [], ◌∷◌, ◌++◌, length, Bool, true, false, refl, sym, ap, add-one}
-use Rattle.std.specs.Prelude.{Option, Some, None}
-use Rattle.wasm_ast.specs.declared.types.ValTy.{ValTy}
+use Rattle.std.proofs.Common.{◌≡◌, ◌∙◌, ℕ, ◌+◌, List, [], ◌∷◌, ◌++◌, length, Bool, true, false, refl, sym, ap, add-one}
+use Rattle.std.specs.Prelude.{Some, None}
 use Rattle.wasm_ast.specs.declared.instructions.WInstr.{WInstr, IfElse}
-use Rattle.wasm_reading.specs.Readers.{Reader, ◌>>=◌, give, byte_at}
-use Rattle.wasm_reading.specs.ReadInstructions.{Listed, listed_from}
+use Rattle.wasm_reading.specs.Readers.{◌>>=◌, give}
+use Rattle.wasm_reading.specs.ReadInstructions.{listed_from}
 use Rattle.wasm_items.specs.Residuals.{rest_behind, IsHungry}
 use Rattle.wasm_items.proofs.ReaderLaws.{then_then}
 use Rattle.wasm_items.specs.Hunger.{hungry_byte, hungry_then, hungry_here}

@@ -1,28 +1,21 @@
 -- How the open lists of a body take a byte where an opcode is awaited. A list reads a byte and what it begins, since
 -- as many bytes as follow are enough for the number that bounds it; then by the laws of readers.
-use Rattle.std.proofs.Common.{◌≡◌, ◌∙◌, ℕ, suc, ◌+◌, ◌≤◌, List, [], ◌∷◌, ◌++◌, length, Bool, true, false, refl, sym, ap, arith, append_assoc, append-nil}
+use Rattle.std.proofs.Common.{◌≡◌, ◌∙◌, ℕ, List, [], ◌∷◌, ◌++◌, length, Bool, true, false, sym, ap, arith, append_assoc, append-nil}
 use Rattle.std.proofs.Math.Path.{fun_ext}
-use Rattle.std.proofs.lemmas.Bool.{cond-true, cond-false, le-leb}
-use Rattle.std.specs.Prelude.{Option, Some, None, if◌then◌else◌, ◌==◌, nat_le}
-use Rattle.wasm_ast.specs.declared.types.ValTy.{ValTy}
-use Rattle.wasm_ast.specs.declared.instructions.WInstr.{WInstr, Block, Loop, If, IfElse}
-use Rattle.wasm_ast.specs.declared.instructions.WInstr.TheVariants.{rolls-Block, rolls-Loop, rolls-If, rolls-IfElse}
-use Rattle.wasm_grammar.specs.Nesting.{nesting_limit}
-use Rattle.wasm_reading.specs.declared.fault.DecodeFault.TheVariants.{BadTag, LimitOutside}
-use Rattle.wasm_reading.specs.Readers.{Input, Reader, ◌>>=◌, give, fail, here, byte_at}
-use Rattle.wasm_reading.specs.ReadValues.{tag_at}
-use Rattle.wasm_reading.specs.ReadTypes.{block_type_of}
-use Rattle.wasm_reading.specs.ReadInstructions.{Listed, instructions_at, listed_from, instruction_from, other_arm_at, plain_at, kind_of, is_from_to}
+use Rattle.std.proofs.lemmas.Bool.{cond-false}
+use Rattle.std.specs.Prelude.{Option, if◌then◌else◌, ◌==◌}
+use Rattle.wasm_ast.specs.declared.instructions.WInstr.{WInstr}
+use Rattle.wasm_reading.specs.declared.fault.DecodeFault.TheVariants.{BadTag}
+use Rattle.wasm_reading.specs.Readers.{Reader, ◌>>=◌, give, fail, here, byte_at}
+use Rattle.wasm_reading.specs.ReadInstructions.{Listed, instructions_at, listed_from, instruction_from, plain_at, kind_of, is_from_to}
 use Rattle.wasm_reading.proofs.Fuel.{AlikeTo, alike_here, alike_byte, alike_empty, alike_listed, instructions_need_no_more}
 use Rattle.wasm_reading.proofs.ShrinkingEntries.{shrinks_instructions}
 use Rattle.wasm_items.specs.Residuals.{Takes, stop}
 use Rattle.wasm_items.proofs.ReaderLaws.{then_then, then_same}
 use Rattle.wasm_items.proofs.Taking.{takes_byte, takes_here, takes_then, takes_as, takes_of}
 use Rattle.wasm_codes.specs.declared.blocks.Open.{Open}
-use Rattle.wasm_codes.specs.declared.blocks.Opening.{Opening}
-use Rattle.wasm_codes.specs.declared.blocks.Opening.TheVariants as openings
-use Rattle.wasm_codes.specs.OpenLists.{list_at, further, has_else, behind_lists, rest_of_lists}
-use Rattle.wasm_codes.specs.Tokens.{IsPlainByte, opening_opcode}
+use Rattle.wasm_codes.specs.OpenLists.{list_at, has_else, behind_lists, rest_of_lists}
+use Rattle.wasm_codes.specs.Tokens.{IsPlainByte}
 
 -- a byte, and what it begins in a list
 abbrev list_from_byte : Bool → ℕ → Reader Listed

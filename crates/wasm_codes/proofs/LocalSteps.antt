@@ -6,7 +6,8 @@ use Rattle.wasm_reading.specs.Readers.{Reader, ◌>>=◌, give}
 use Rattle.wasm_reading.specs.ReadValues.{u32_at}
 use Rattle.wasm_reading.specs.ReadModules.{local_runs_at}
 use Rattle.wasm_items.proofs.ReaderLaws.{then_then, then_same}
-use Rattle.wasm_codes.specs.LocalStates.{AlikeAt, more_runs, run_type, behind_type, behind_count}
+use Rattle.wasm_codes.specs.Places.{AlikeAt}
+use Rattle.wasm_codes.specs.LocalStates.{more_runs, run_type, behind_type, behind_count}
 
 -- There are no more runs.
 pub no_runs : (before : List LocalRun) (total place : ℕ) → AlikeAt place (more_runs before total 0) (give before)

@@ -1,10 +1,10 @@
 -- How the open lists of a body take an opcode that opens an instruction, and what stands behind an open instruction's
 -- list: by the definition of the instruction's reader, regrouped.
-use Rattle.std.proofs.Common.{◌≡◌, ◌∙◌, ℕ, suc, ◌+◌, ◌<◌, ◌≤◌, List, [], ◌∷◌, ◌++◌, length, Bool, true, false, refl, sym, ap, add-one}
+use Rattle.std.proofs.Common.{◌≡◌, ◌∙◌, ℕ, ◌+◌, ◌<◌, ◌≤◌, List, ◌∷◌, length, Bool, true, false, refl, ap, add-one}
 use Rattle.std.proofs.lemmas.Bool.{cond-true, cond-false, le-leb, lt-leb}
-use Rattle.std.specs.Prelude.{Option, Some, None, if◌then◌else◌, ◌==◌, nat_le}
+use Rattle.std.specs.Prelude.{Option, if◌then◌else◌, ◌==◌, nat_le}
 use Rattle.wasm_ast.specs.declared.types.ValTy.{ValTy}
-use Rattle.wasm_ast.specs.declared.instructions.WInstr.{WInstr, Block, Loop, If, IfElse, roll-WInstr}
+use Rattle.wasm_ast.specs.declared.instructions.WInstr.{WInstr, IfElse, roll-WInstr}
 use Rattle.wasm_ast.specs.declared.instructions.WInstr.TheOpen.{WInstr-F}
 use Rattle.wasm_ast.specs.declared.instructions.WInstr.TheVariants.{rolls-Block, rolls-Loop, rolls-If, rolls-IfElse}
 use Rattle.wasm_grammar.specs.Nesting.{nesting_limit}
@@ -17,11 +17,10 @@ use Rattle.wasm_items.specs.Residuals.{Takes, stop}
 use Rattle.wasm_items.proofs.ReaderLaws.{then_then, then_same}
 use Rattle.wasm_items.proofs.Taking.{takes_as}
 use Rattle.wasm_codes.specs.declared.blocks.Head.{Head}
-use Rattle.wasm_codes.specs.declared.blocks.Head.TheVariants as heads
 use Rattle.wasm_codes.specs.declared.blocks.Open.{Open}
 use Rattle.wasm_codes.specs.declared.blocks.Opening.{Opening}
 use Rattle.wasm_codes.specs.declared.blocks.Opening.TheVariants as openings
-use Rattle.wasm_codes.specs.OpenLists.{list_at, arm_behind, behind_list, further, has_else, behind_lists, rest_of_lists, opened, head_of, is_first_arm, rest_of_opening}
+use Rattle.wasm_codes.specs.OpenLists.{list_at, arm_behind, behind_list, behind_lists, rest_of_lists, opened, head_of, is_first_arm, rest_of_opening}
 use Rattle.wasm_codes.specs.Tokens.{opening_opcode}
 use Rattle.wasm_codes.proofs.ListSteps.{behind_one, takes_item}
 

@@ -1,5 +1,5 @@
 -- How the open lists of a body take the opcode of an instruction that nests none: by the table of what follows it.
-use Rattle.std.proofs.Common.{◌≡◌, ◌∙◌, ℕ, List, [], ◌∷◌, refl, sym, ap}
+use Rattle.std.proofs.Common.{◌≡◌, ◌∙◌, ℕ, List, refl, ap}
 use Rattle.std.specs.Prelude.{Option, Some, None}
 use Rattle.std.specs.Option.{option_map}
 use Rattle.wasm_ast.specs.declared.instructions.WInstr.{WInstr, roll-WInstr}

@@ -1,15 +1,16 @@
 -- How a content of a declared size takes a byte: as its reader does, whose end is not behind the declared one. And
 -- what stands behind the last byte: the value, or the fault that the size is wrong.
-use Rattle.std.proofs.Common.{◌≡◌, ◌∙◌, ◌≢◌, ℕ, zero, suc, ◌+◌, ◌-◌, ◌<◌, ◌≤◌, min, List, [], ◌∷◌, Bool, true, false, cond, Option, None, Some, inr, Result, Ok, Err, refl, ap, sym, arith, eqb}
+use Rattle.std.proofs.Common.{◌≡◌, ◌∙◌, ◌≢◌, ℕ, ◌+◌, ◌<◌, List, [], ◌∷◌, Bool, true, false, cond, Option, None, Some, inr, Result, Ok, Err, refl, ap, arith}
 use Rattle.std.specs.Prelude.{◌==◌}
 use Rattle.std.proofs.lemmas.Bool.Decides.{nat_tests}
 use Rattle.std.proofs.lemmas.Bool.{cond-true, cond-false}
 use Rattle.wasm_reading.specs.declared.fault.DecodeError.{DecodeError}
-use Rattle.wasm_reading.specs.declared.fault.DecodeFault.TheVariants.{BadLength, Truncated}
-use Rattle.wasm_reading.specs.Readers.{Input, Reader, and_then, ◌>>=◌, give, here, byte_at, first_byte, is_at_end, within, ended, lesser_end}
+use Rattle.wasm_reading.specs.declared.fault.DecodeFault.TheVariants.{BadLength}
+use Rattle.wasm_reading.specs.Readers.{Input, Reader, and_then, give, first_byte, is_at_end, within, ended, lesser_end}
 use Rattle.wasm_items.specs.Residuals.{Takes, IsHungry, stop, answered}
 use Rattle.wasm_items.specs.declared.progress.Progress.{Progress}
-use Rattle.wasm_codes.specs.Sizes.{IsBefore, IsWithin, TakesBefore, PushesBefore, AlikeWithin, left_at}
+use Rattle.wasm_codes.specs.Places.{IsBefore, IsWithin, TakesBefore, PushesBefore, AlikeWithin}
+use Rattle.wasm_codes.specs.Sizes.{left_at}
 
 not_at_end : (at : ℕ) (end : Option ℕ) (rest : List ℕ) → IsBefore at end → is_at_end (record { at = at; end = end; rest = rest }) ≡ false
 not_at_end at None rest before = refl

@@ -1,5 +1,5 @@
 -- Runs of locals in the middle (WebAssembly Core Specification 1.0, section 5.5.13); the states are this project's own.
-use Rattle.std.specs.Prelude.{◌≡◌, ℕ, ◌+◌, nat_lt, if◌then◌else◌, List, [], ◌∷◌, ◌++◌, Option, Result, Ok, Err}
+use Rattle.std.specs.Prelude.{ℕ, ◌+◌, nat_lt, if◌then◌else◌, List, [], ◌∷◌, ◌++◌, Result, Ok, Err}
 use Rattle.wasm_ast.specs.declared.types.ValTy.{ValTy}
 use Rattle.wasm_ast.specs.declared.modules.LocalRun.{LocalRun}
 use Rattle.wasm_grammar.specs.Profile.{local_limit}
@@ -15,10 +15,6 @@ use Rattle.wasm_items.specs.Hunger.{hungry_then, hungry_leb, hungry_tag}
 use Rattle.wasm_codes.specs.declared.locals.Locals.{Locals}
 use Rattle.wasm_codes.specs.declared.locals.NextOfRun.{NextOfRun}
 use Rattle.wasm_codes.specs.declared.locals.NextOfRun.TheVariants.{Count, TypeOf}
-
--- two readers give the same where reading stands at `place`
-pub record AlikeAt {A : Type 0} (place : ℕ) (old new : Reader A) : Type 0 where
-  pub same : (end : Option ℕ) (bs : List ℕ) → old (record { at = place; end = end; rest = bs }) ≡ new (record { at = place; end = end; rest = bs })
 
 -- runs so far, which declare `total` locals, and so many more runs
 abbrev pub more_runs : List LocalRun → ℕ → ℕ → Reader (List LocalRun)

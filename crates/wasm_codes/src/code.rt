@@ -1,7 +1,8 @@
 ghost use Rattle.std.specs.Prelude.{◌≡◌, ◌+◌, ◌<◌, ◌^◌};
 ghost use Rattle.wasm_reading.specs.ReadModules.{code_at};
 ghost use Rattle.wasm_items.specs.Residuals.{answered, rest_behind};
-ghost use Rattle.wasm_codes.specs.Sizes.{PushesBefore, AlikeWithin, left_at};
+ghost use Rattle.wasm_codes.specs.Places.{PushesBefore, AlikeWithin};
+ghost use Rattle.wasm_codes.specs.Sizes.{left_at};
 ghost use Rattle.wasm_codes.specs.FunctionStates.{rest_of_function};
 ghost use Rattle.wasm_codes.specs.CodeStates.{rest_of_code};
 

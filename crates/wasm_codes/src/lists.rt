@@ -6,14 +6,8 @@ use crate::blocks::{Head, Open};
 use crate::stack::Stack;
 use std::alloc::{AllocError, Global};
 use wasm_ast::{List, WInstr};
-use wasm_items::Progress;
+use wasm_items::{Progress, append};
 use wasm_reading::{DecodeError, DecodeFault};
-
-/// Want of memory.
-pub const NO_MEMORY: DecodeError = DecodeError {
-    at: 0,
-    fault: DecodeFault::Memory,
-};
 
 /// The lists of instructions that are open in a body: the instructions so far of the innermost one, and the
 /// instructions around it, innermost first.
@@ -47,10 +41,8 @@ impl Lists {
         ensures err { IfErr result (λ e. e ≡ no_memory) }
     {
         let Lists { around, mut inner } = self;
-        match inner.push(w) {
-            Ok(()) => Ok(Lists { around, inner }),
-            Err(AllocError) => Err(NO_MEMORY),
-        }
+        append(&mut inner, w)?;
+        Ok(Lists { around, inner })
     }
 
     /// An instruction is opened. `Memory` where memory is wanting.
@@ -64,7 +56,10 @@ impl Lists {
                 around,
                 inner: List::new(alloc),
             }),
-            Err(AllocError) => Err(NO_MEMORY),
+            Err(AllocError) => Err(DecodeError {
+                at: 0,
+                fault: DecodeFault::Memory,
+            }),
         }
     }
 

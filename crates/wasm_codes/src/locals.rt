@@ -1,6 +1,7 @@
 ghost use Rattle.std.specs.Prelude.{◌≡◌, ◌+◌, ◌<◌, ◌^◌};
 ghost use Rattle.wasm_items.specs.Residuals.{Pushes, rest_behind};
-ghost use Rattle.wasm_codes.specs.LocalStates.{rest_of_locals, more_runs, within_limit, AlikeAt};
+ghost use Rattle.wasm_codes.specs.Places.{AlikeAt};
+ghost use Rattle.wasm_codes.specs.LocalStates.{rest_of_locals, more_runs, within_limit};
 
 use std::alloc::Global;
 use wasm_ast::{List, LocalRun};
