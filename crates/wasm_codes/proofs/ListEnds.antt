@@ -32,10 +32,12 @@ behind_arm (heads.Block t) before around inner lists e = cc
 behind_arm (heads.Loop t) before around inner lists e = cc
 behind_arm (heads.SecondArm t first) before around inner lists e = cc
 behind_arm (heads.FirstArm t) before around inner lists e =
-    let same : lists ≡ opened around before (heads.SecondArm t inner) = cc in
-    (refl, ap rest_of_lists same
-    ∙ ap (λ depth. list_at false depth >>= behind_lists (record { head = heads.SecondArm t inner; before = before } ∷ around)) (sym (add-one (length around)))
-    ∙ sym (then_then (list_at false (length around + 1)) (λ ys. give (IfElse t inner ys.0)) (behind_one around before)))
+    let same : lists ≡ opened around before (heads.SecondArm t inner) = cc in (
+      refl,
+      ap rest_of_lists same
+          ∙ ap (λ depth. list_at false depth >>= behind_lists (record { head = heads.SecondArm t inner; before = before } ∷ around)) (sym (add-one (length around)))
+          ∙ sym (then_then (list_at false (length around + 1)) (λ ys. give (IfElse t inner ys.0)) (behind_one around before)),
+    )
 
 -- Behind `else`, where it may stand.
 pub behind_else : (around : List Open) (inner : List WInstr) (lists : Lists) → Some lists ≡ second_arm around inner → (has_else around ≡ true) × (rest_of_lists lists ≡ behind_lists around (inner, true))
