@@ -1,11 +1,12 @@
 -- How readers that are made of others take a byte: each step of a state is one of these lemmas.
 -- Each is the definition of its reader, at the byte.
-use Rattle.std.proofs.Common.{◌≡◌, ℕ, ◌+◌, Bool, cond, Result, Ok, Err, inr, ap, sym}
+use Rattle.std.proofs.Common.{◌≡◌, ◌∙◌, ℕ, ◌+◌, Bool, false, cond, eqb, min, List, ◌∷◌, Option, None, Some, Result, Ok, Err, ◌⊎◌, inl, inr, ap, sym, arith}
+use Rattle.std.proofs.lemmas.Bool.{cases_lt, ne_eqb, eqb-false}
 use Rattle.std.specs.Result.{IsErrAnd}
 use Rattle.wasm_reading.specs.declared.fault.DecodeError.{DecodeError}
 use Rattle.wasm_reading.specs.declared.fault.DecodeFault.{DecodeFault}
 use Rattle.wasm_reading.specs.declared.fault.DecodeFault.TheVariants.{BadLength}
-use Rattle.wasm_reading.specs.Readers.{Reader, and_then, ◌>>=◌, give, here, byte_at}
+use Rattle.wasm_reading.specs.Readers.{Reader, and_then, ◌>>=◌, give, here, byte_at, is_at_end, lesser_end, within, ended}
 use Rattle.wasm_reading.specs.ReadValues.{tag_at, tagged}
 use Rattle.wasm_items.specs.declared.progress.Progress.{Progress}
 use Rattle.wasm_items.specs.Residuals.{Takes, stop, answered, Pushes, placed}
@@ -31,6 +32,24 @@ takes_as e t = rw e at t
 
 pub takes_of : {A : Type 0} {old other new : Reader A} {b at : ℕ} → other ≡ old → Takes old b at new → Takes other b at new
 takes_of e t = rw e t
+
+-- The same behind the byte, where reading stands one place on.
+pub takes_point : {A : Type 0} {old new other : Reader A} {b at : ℕ} → ((end : Option ℕ) (bs : List ℕ) → new (record { at = at + 1; end = end; rest = bs }) ≡ other (record { at = at + 1; end = end; rest = bs })) → Takes old b at new → Takes old b at other
+takes_point e t = record { same = λ end bs before. t.same end bs before ∙ e end bs }
+
+-- A content of a declared end, before that end.
+cases_min : (m n : ℕ) → (min m n ≡ m) ⊎ (min m n ≡ n)
+cases_min m n = elim (cases_lt m n) [ inl less ↦ inl (omega arith) | inr more ↦ inr (omega arith) ]
+
+before_both : (at stop : ℕ) (end : Option ℕ) (b : ℕ) (bs : List ℕ) → eqb at stop ≡ false → is_at_end (record { at = at; end = end; rest = b ∷ bs }) ≡ false → is_at_end (record { at = at; end = Some (lesser_end end stop); rest = b ∷ bs }) ≡ false
+before_both at stop None b bs inner outer = inner
+before_both at stop (Some end) b bs inner outer =
+    ne_eqb at (min end stop) (λ e. elim (cases_min end stop) [ inl m ↦ eqb-false at end outer (e ∙ m) | inr m ↦ eqb-false at stop inner (e ∙ m) ])
+
+pub takes_within : {A : Type 0} {content new : Reader A} {b at : ℕ} (stop : ℕ) → eqb at stop ≡ false → Takes content b at new → Takes (within stop content) b at (within stop new)
+takes_within {b} {at} stop inner t = record {
+  same = λ end bs outer. ap (λ done. and_then done (ended end stop)) (t.same (Some (lesser_end end stop)) bs (before_both at stop end b bs inner outer));
+}
 
 -- A byte by a table.
 pub takes_tag : {A : Type 0} (b at : ℕ) (of : ℕ → Result A DecodeFault) → Takes (tag_at of) b at (tagged at (of b))

@@ -2,6 +2,7 @@ pub mod Residuals
 pub mod LebStates
 pub mod Hunger
 pub mod Vectors
+pub mod BoundedStates
 pub mod LimitsStates
 pub mod NameStates
 pub mod ImmediateStates

@@ -1,6 +1,7 @@
 //! Items of a WebAssembly module that are read a byte at a time.
 #![tactic(auto)]
 
+mod bounded;
 mod by_opcode;
 mod constant;
 mod immediates;
@@ -16,6 +17,7 @@ mod progress;
 mod tags;
 mod vector;
 
+pub use bounded::BoundedState;
 pub use by_opcode::{
     const32_instruction, const64_instruction, index_zero_instruction, label_instruction,
 };
@@ -31,4 +33,7 @@ pub use name::NameState;
 pub use one_byte::{ByteState, ValueTypeState};
 pub use progress::Progress;
 pub use tags::{block_type, external_kind, flag, only, value_type};
-pub use vector::VectorState;
+pub use vector::{ByteVector, Numbers, VectorState};
+
+#[cfg(test)]
+mod tests;

@@ -1,14 +1,15 @@
 ghost use Rattle.std.specs.Prelude.{◌+◌, ◌<◌, ◌^◌};
-ghost use Rattle.wasm_items.specs.Residuals.{Pushes};
+ghost use Rattle.wasm_items.specs.Residuals.{PushesExactly};
 ghost use Rattle.wasm_items.specs.LimitsStates.{rest_of_limits};
 
+use crate::bounded::BoundedState;
 use crate::item::Item;
 use crate::leb::Leb32;
 use crate::progress::Progress;
 use crate::tags::{flag, only};
 use std::alloc::Global;
 use wasm_ast::Limits;
-use wasm_reading::{DecodeError, DecodeFault};
+use wasm_reading::DecodeError;
 
 /// The most pages that a memory has at first (this project's own).
 const PAGE_LIMIT: u32 = 1_024;
@@ -16,19 +17,17 @@ const PAGE_LIMIT: u32 = 1_024;
 /// The most entries that a table has at first (this project's own).
 const ENTRY_LIMIT: u32 = 100_000;
 
-/// Limits in the middle (WebAssembly Core Specification 1.0, section 5.3.4); `most` bounds the minimum.
+/// Limits in the middle (WebAssembly Core Specification 1.0, section 5.3.4).
 #[derive(Debug, Drop)]
 pub enum LimitsState {
-    /// The byte that says whether there is a maximum.
+    /// The byte that says whether there is a maximum; the minimum is to be at most `most`.
     Flag {
         most: u32,
     },
-    /// The minimum, whose first byte stands at this place.
+    /// The minimum.
     Minimum {
-        most: u32,
-        place: u64,
+        minimum: BoundedState,
         has_maximum: bool,
-        number: Leb32,
     },
     /// The maximum, behind this minimum.
     Maximum {
@@ -38,44 +37,32 @@ pub enum LimitsState {
 }
 
 impl LimitsState {
-    /// Takes the byte at this place. `LimitOutside` at the first byte of a minimum that is too great.
+    /// Takes the byte at this place. `BadTag` and `BadLeb` there; `LimitOutside` at the first byte of a minimum
+    /// that is too great.
     pub fn push(self, byte: u8, at: u64) -> Result<Progress<LimitsState, Limits>, DecodeError>
         requires { at + 1 < 2 ^ 64 }
-        ensures { Pushes rest_of_limits (rest_of_limits self) byte at result }
+        ensures { PushesExactly rest_of_limits (rest_of_limits self) byte at result }
     {
         match self {
             LimitsState::Flag { most } => Ok(Progress::More(LimitsState::Minimum {
-                most,
-                place: at + 1,
                 has_maximum: flag(byte, at)?,
-                number: Leb32::unsigned(),
+                minimum: BoundedState::start(most, at + 1),
             })),
             LimitsState::Minimum {
-                most,
-                place,
+                minimum,
                 has_maximum,
-                number,
-            } => match number.push(byte, at)? {
-                Progress::More(number) => Ok(Progress::More(LimitsState::Minimum {
-                    most,
-                    place,
+            } => match minimum.push(byte, at)? {
+                Progress::More(minimum) => Ok(Progress::More(LimitsState::Minimum {
+                    minimum,
                     has_maximum,
-                    number,
                 })),
-                Progress::Done(minimum) if most < minimum => Err(DecodeError {
-                    at: place,
-                    fault: DecodeFault::LimitOutside,
-                }),
                 Progress::Done(minimum) if has_maximum => Ok(Progress::More(
                     LimitsState::Maximum {
                         minimum,
                         number: Leb32::unsigned(),
                     },
                 )),
-                Progress::Done(minimum) => Ok(Progress::Done(Limits {
-                    min: minimum,
-                    max: None,
-                })),
+                Progress::Done(min) => Ok(Progress::Done(Limits { min, max: None })),
             },
             LimitsState::Maximum { minimum, number } => match number.push(byte, at)? {
                 Progress::More(number) => Ok(Progress::More(LimitsState::Maximum {

@@ -5,6 +5,7 @@ ghost use Rattle.wasm_items.specs.Vectors.{rest_of_vector, more_at};
 use crate::item::Item;
 use crate::leb::Leb32;
 use crate::memory::append;
+use crate::one_byte::ByteState;
 use crate::progress::Progress;
 use std::alloc::Global;
 use wasm_ast::List;
@@ -18,6 +19,12 @@ pub struct VectorState<T: Item> {
     before: List<T::Value>,
     next: Next<T>,
 }
+
+/// A vector of `u32`, as the labels of a table of branches, in the middle.
+pub type Numbers = VectorState<Leb32>;
+
+/// A vector of bytes that stand for themselves, in the middle.
+pub type ByteVector = VectorState<ByteState>;
 
 /// What is read next of a vector.
 #[derive(Drop)]
