@@ -5,3 +5,4 @@ pub mod LocalSteps
 pub mod SizeSteps
 pub mod PlainSteps
 pub mod Hunger
+pub mod Answering

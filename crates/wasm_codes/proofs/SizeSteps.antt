@@ -42,14 +42,6 @@ takes_left {A} {old} {new} {b} {at} left t = record {
 pub before_as : {A : Type 0} {old new other : Reader A} {b at : ℕ} → AlikeWithin (at + 1) new other → TakesBefore old b at new → TakesBefore old b at other
 before_as {A} {old} {new} {other} {b} {at} alike t = record { same = λ end bs before. t.same end bs before ∙ alike.same end bs (within_behind at end before) }
 
--- A content of no further byte that is read.
-pub left_done : {A : Type 0} (place : ℕ) (value : A) → AlikeWithin place (left_at 0 (give value)) (give value)
-left_done place value = record {
-  same = λ end bs fits.
-      let here : (place == place + 0) ≡ true = grind (arith, nat_tests) in
-      cond-true (place == place + 0) _ _ here;
-}
-
 -- A content that is read where further bytes of it are left.
 pub left_early : {A : Type 0} (place left : ℕ) (value : A) → left ≢ 0 → AlikeWithin place (left_at left (give value)) (stop (record { at = place; fault = BadLength }))
 left_early place left value some = record {
