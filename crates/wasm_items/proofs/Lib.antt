@@ -5,3 +5,4 @@ pub mod VectorSteps
 pub mod NamePlaces
 pub mod OpcodeKinds
 pub mod ImmediateSteps
+pub mod BoundedSteps

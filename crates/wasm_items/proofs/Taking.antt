@@ -9,7 +9,7 @@ use Rattle.wasm_reading.specs.declared.fault.DecodeFault.TheVariants.{BadLength}
 use Rattle.wasm_reading.specs.Readers.{Reader, and_then, ◌>>=◌, give, here, byte_at, is_at_end, lesser_end, within, ended}
 use Rattle.wasm_reading.specs.ReadValues.{tag_at, tagged}
 use Rattle.wasm_items.specs.declared.progress.Progress.{Progress}
-use Rattle.wasm_items.specs.Residuals.{Takes, stop, answered, Pushes, placed}
+use Rattle.wasm_items.specs.Residuals.{Takes, Stops, stop, answered, Pushes, PushesExactly, placed}
 
 -- A byte is read.
 pub takes_byte : {A : Type 0} (b at : ℕ) (f : ℕ → Reader A) → Takes (byte_at >>= f) b at (f b)
@@ -26,10 +26,11 @@ takes_here f t = record { same = t.same }
 pub takes_then : {A B : Type 0} {old new : Reader A} {b at : ℕ} (f : A → Reader B) → Takes old b at new → Takes (old >>= f) b at (new >>= f)
 takes_then f t = record { same = λ end bs before. ap (λ done. and_then done f) (t.same end bs before) }
 
--- The same in other words.
+-- The same, with the new reader in other words.
 pub takes_as : {A : Type 0} {old new other : Reader A} {b at : ℕ} → new ≡ other → Takes old b at new → Takes old b at other
 takes_as e t = rw e at t
 
+-- The same, with the old reader in other words.
 pub takes_of : {A : Type 0} {old other new : Reader A} {b at : ℕ} → other ≡ old → Takes old b at new → Takes other b at new
 takes_of e t = rw e t
 
@@ -37,7 +38,6 @@ takes_of e t = rw e t
 pub takes_point : {A : Type 0} {old new other : Reader A} {b at : ℕ} → ((end : Option ℕ) (bs : List ℕ) → new (record { at = at + 1; end = end; rest = bs }) ≡ other (record { at = at + 1; end = end; rest = bs })) → Takes old b at new → Takes old b at other
 takes_point e t = record { same = λ end bs before. t.same end bs before ∙ e end bs }
 
--- A content of a declared end, before that end.
 cases_min : (m n : ℕ) → (min m n ≡ m) ⊎ (min m n ≡ n)
 cases_min m n = elim (cases_lt m n) [ inl less ↦ inl (omega arith) | inr more ↦ inr (omega arith) ]
 
@@ -46,6 +46,7 @@ before_both at stop None b bs inner outer = inner
 before_both at stop (Some end) b bs inner outer =
     ne_eqb at (min end stop) (λ e. elim (cases_min end stop) [ inl m ↦ eqb-false at end outer (e ∙ m) | inr m ↦ eqb-false at stop inner (e ∙ m) ])
 
+-- A content of a declared end, before that end.
 pub takes_within : {A : Type 0} {content new : Reader A} {b at : ℕ} (stop : ℕ) → eqb at stop ≡ false → Takes content b at new → Takes (within stop content) b at (within stop new)
 takes_within {b} {at} stop inner t = record {
   same = λ end bs outer. ap (λ done. and_then done (ended end stop)) (t.same (Some (lesser_end end stop)) bs (before_both at stop end b bs inner outer));
@@ -63,9 +64,11 @@ tagged_err : {A : Type 0} (at : ℕ) (said : Result A DecodeFault) {e : DecodeEr
 tagged_err at (Ok y) e = cc
 tagged_err at (Err fault) e = ap stop cc
 
+-- A byte that stands for a value.
 pub takes_tag_ok : {A : Type 0} (b at : ℕ) (of : ℕ → Result A DecodeFault) {x : A} → Ok x ≡ placed at (of b) → Takes (tag_at of) b at (give x)
 takes_tag_ok b at of e = takes_as (tagged_ok at (of b) e) (takes_tag b at of)
 
+-- A byte that stands for none.
 pub takes_tag_err : {A : Type 0} (b at : ℕ) (of : ℕ → Result A DecodeFault) {e : DecodeError} → Err e ≡ placed at (of b) → Takes (tag_at of) b at (stop e)
 takes_tag_err b at of e = takes_as (tagged_err at (of b) e) (takes_tag b at of)
 
@@ -73,6 +76,20 @@ takes_tag_err b at of e = takes_as (tagged_err at (of b) e) (takes_tag b at of)
 pub takes_exit : {S A : Type 0} {old : Reader A} {b at : ℕ} (rest_of : S → Reader A) (answer : Result (Progress S A) DecodeError) {e : DecodeError} → IsErrAnd answer (λ given. given ≡ e) → Takes old b at (stop e) → Takes old b at (answered rest_of answer)
 takes_exit rest_of (Ok progress) is t = absurd is
 takes_exit rest_of (Err given) is t = takes_as (ap stop (sym is)) t
+
+-- A fault with what is read behind still to be read.
+pub stops_then : {A B : Type 0} {old : Reader A} {b at : ℕ} {e : DecodeError} (f : A → Reader B) → Stops old b at e → Stops (old >>= f) b at e
+stops_then f (inl none) = inl none
+stops_then f (inr t) = inr (takes_then f t)
+
+pub pushes_exit : {S A : Type 0} {old : Reader A} {b at : ℕ} (rest_of : S → Reader A) (answer : Result (Progress S A) DecodeError) {e : DecodeError} → IsErrAnd answer (λ given. given ≡ e) → Stops old b at e → Pushes rest_of old b at answer
+pushes_exit rest_of (Ok progress) is stops = absurd is
+pushes_exit rest_of (Err given) is stops = rw is stops
+
+-- What takes no memory is a case of what may.
+pub pushes_exactly : {S A : Type 0} {old : Reader A} {b at : ℕ} (rest_of : S → Reader A) (answer : Result (Progress S A) DecodeError) → PushesExactly rest_of old b at answer → Pushes rest_of old b at answer
+pushes_exactly rest_of (Ok progress) t = t
+pushes_exactly rest_of (Err given) t = inr t
 
 -- The answer is another function's, which says what is read behind it.
 pub pushes_answered : {S A : Type 0} {old reader : Reader A} {b at : ℕ} (rest_of : S → Reader A) (answer : Result (Progress S A) DecodeError) → answered rest_of answer ≡ reader → Takes old b at reader → Pushes rest_of old b at answer

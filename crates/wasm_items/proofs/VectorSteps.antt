@@ -2,11 +2,15 @@
 use Rattle.std.proofs.Common.{◌≡◌, ◌∙◌, ℕ, zero, suc, ◌-◌, ◌≢◌, List, [], ◌∷◌, ◌++◌, ap, sym, arith, append_assoc, append-nil}
 use Rattle.wasm_reading.specs.Readers.{Reader, ◌>>=◌, give, each_at}
 use Rattle.wasm_items.specs.Vectors.{more_at}
-use Rattle.wasm_items.proofs.ReaderLaws.{then_then, then_same}
+use Rattle.wasm_items.proofs.ReaderLaws.{then_give, then_then, then_same}
 
 -- There are no more entries.
 pub more_none : {A : Type 0} (item : Reader A) (before : List A) → more_at item before 0 ≡ give before
 more_none item before = ap give (append-nil before)
+
+-- All entries are still to be read.
+pub more_all : {A : Type 0} (item : Reader A) (n : ℕ) → more_at item [] n ≡ each_at item n
+more_all item n = then_give (each_at item n)
 
 joined : {A : Type 0} (item : Reader A) (before : List A) (n : ℕ) (x : A) → (each_at item n >>= (λ xs. give (x ∷ xs))) >>= (λ xs. give (before ++ xs)) ≡ more_at item (before ++ x ∷ []) n
 joined item before n x =

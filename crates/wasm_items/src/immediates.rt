@@ -76,16 +76,15 @@ impl Immediates {
         }
     }
 
-    /// Takes the byte at this place.
+    /// Takes the byte at this place. `BadLeb` and `BadTag` there, and `BadTag` at the opcode where no instruction of
+    /// it has these immediates; `Memory`.
     pub fn push(self, byte: u8, at: u64) -> Result<Progress<Immediates, WInstr>, DecodeError>
         requires { at + 1 < 2 ^ 64 }
         ensures { Pushes rest_of_immediates (rest_of_immediates self) byte at result }
     {
-        let Immediates {
-            place,
-            opcode,
-            next,
-        } = self;
+        let place = self.place;
+        let opcode = self.opcode;
+        let next = self.next;
         let next = match next {
             Immediate::Number(what, number) => match number.push(byte, at)? {
                 Progress::More(number) => Immediate::Number(what, number),

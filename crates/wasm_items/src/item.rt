@@ -22,7 +22,7 @@ pub trait Item: Drop {
     fn start(alloc: Global) -> Self
         ensures { rest_of result ≡ reader };
 
-    /// Takes the byte at this place.
+    /// Takes the byte at this place. A fault is the reader's, or `Memory` at place 0.
     fn push(self, byte: u8, at: u64) -> Result<Progress<Self, Self::Value>, DecodeError>
         requires { at + 1 < 2 ^ 64 }
         ensures { Pushes rest_of (rest_of self) byte at result };

@@ -1,4 +1,5 @@
-//! Items of a WebAssembly module that are read a byte at a time.
+//! Items of a WebAssembly module that are read a byte at a time: states, each of which takes a byte and answers a
+//! further state, a value or a fault.
 #![tactic(auto)]
 
 mod bounded;

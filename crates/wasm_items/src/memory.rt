@@ -5,7 +5,8 @@ use std::alloc::AllocError;
 use wasm_ast::List;
 use wasm_reading::{DecodeError, DecodeFault};
 
-/// Adds an entry at the end; `Memory` where memory is wanting.
+/// Adds an entry at the end (this project's own). `Memory` at place 0 where memory is wanting, or where the list is
+/// full.
 pub fn append<T: Drop>(list: &mut List<T>, entry: T) -> Result<(), DecodeError>
     ensures ok { OnOk result (list.new ≡ list.old ++ entry ∷ []) }
     ensures err { IfErr result (λ e. e ≡ no_memory) }

@@ -7,7 +7,8 @@ ghost use Rattle.wasm_items.specs.Residuals.{placed};
 use wasm_ast::{ExportKind, ValTy};
 use wasm_reading::{DecodeError, DecodeFault};
 
-/// One byte and no other (WebAssembly Core Specification 1.0, section 5.1.1). `BadTag` at its place `at`.
+/// One byte that the binary format demands (WebAssembly Core Specification 1.0, section 5.1.1). `BadTag` at its
+/// place `at` where it is another one.
 pub fn only(wanted: u8, byte: u8, at: u64) -> Result<(), DecodeError>
     ensures { result ≡ placed at (only_byte wanted byte) }
 {
@@ -39,7 +40,7 @@ pub fn value_type(byte: u8, at: u64) -> Result<ValTy, DecodeError>
     }
 }
 
-/// The result type of a block, of a byte (section 5.3.2, 5.4.1). `FloatOutside` and `BadTag` at its place `at`.
+/// The result type of a block, of a byte (section 5.3.2). `FloatOutside` and `BadTag` at its place `at`.
 pub fn block_type(byte: u8, at: u64) -> Result<Option<ValTy>, DecodeError>
     ensures { result ≡ placed at (block_type_of byte) }
 {
@@ -58,7 +59,7 @@ pub fn block_type(byte: u8, at: u64) -> Result<Option<ValTy>, DecodeError>
     }
 }
 
-/// Whether limits have a maximum (section 5.3.4), and whether a global is mutable (section 5.3.6), of a byte.
+/// Whether limits have a maximum (section 5.3.4), or whether a global is mutable (section 5.3.7), of a byte.
 /// `BadTag` at its place `at`.
 pub fn flag(byte: u8, at: u64) -> Result<bool, DecodeError>
     ensures { result ≡ placed at (flag_of byte) }

@@ -72,7 +72,7 @@ impl<T: Item> Item for VectorState<T> {
                     before,
                     next: Next::Count(number),
                 })),
-                Progress::Done(count) => Ok(entries(alloc, before, count)),
+                Progress::Done(count) => Ok(VectorState::entries(alloc, before, count)),
             },
             Next::Entry(entry, behind) => match entry.push(byte, at)? {
                 Progress::More(entry) => Ok(Progress::More(VectorState {
@@ -82,27 +82,29 @@ impl<T: Item> Item for VectorState<T> {
                 })),
                 Progress::Done(value) => {
                     append(&mut before, value)?;
-                    Ok(entries(alloc, before, behind))
+                    Ok(VectorState::entries(alloc, before, behind))
                 }
             },
         }
     }
 }
 
-/// So many entries behind those that were read: nothing more is read where there are none.
-fn entries<T: Item>(
-    alloc: Global,
-    before: List<T::Value>,
-    count: u32,
-) -> Progress<VectorState<T>, List<T::Value>>
-    ensures { rest_behind (rest_of_vector T.reader T.rest_of) result ≡ more_at T.reader before count }
-{
-    if count == 0 {
-        return Progress::Done(before);
+impl<T: Item> VectorState<T> {
+    /// So many entries behind those that were read, without their count: done where there are none.
+    pub fn entries(
+        alloc: Global,
+        before: List<T::Value>,
+        count: u32,
+    ) -> Progress<VectorState<T>, List<T::Value>>
+        ensures { rest_behind (rest_of_vector T.reader T.rest_of) result ≡ more_at T.reader before count }
+    {
+        if count == 0 {
+            return Progress::Done(before);
+        }
+        Progress::More(VectorState {
+            alloc,
+            before,
+            next: Next::Entry(T::start(alloc), count - 1),
+        })
     }
-    Progress::More(VectorState {
-        alloc,
-        before,
-        next: Next::Entry(T::start(alloc), count - 1),
-    })
 }
