@@ -83,8 +83,8 @@ fn at_opcode(lists: Lists) -> Progress<Body, List<WInstr>>
     })
 }
 
-/// Takes a byte where an opcode is awaited. `BadTag` and `FloatOutside` where it is none of the profile,
-/// `LimitOutside` where it opens an instruction and too many are open.
+/// Takes a byte where an opcode is awaited. `BadTag` and `FloatOutside` where it is none of the profile, `BadTag`
+/// where it is `else` and none may stand there, `LimitOutside` where it opens an instruction and too many are open.
 fn opcode_read(
     lists: Lists,
     alloc: Global,
