@@ -1,0 +1,10 @@
+pub mod Stacks
+pub mod Places
+pub mod Sizes
+pub mod OpenLists
+pub mod Tokens
+pub mod LocalStates
+pub mod BodyStates
+pub mod FunctionStates
+pub mod CodeStates
+pub mod Laws
