@@ -4,3 +4,4 @@ pub mod ReadTypes
 pub mod ReadInstructions
 pub mod ReadModules
 pub mod WorkedReadings
+pub mod Laws

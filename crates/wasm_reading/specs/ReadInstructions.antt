@@ -103,8 +103,18 @@ instruction_from list depth place opcode =
     else nested_at place opcode (list false (depth + 1))))
     else plain_at place opcode (kind_of opcode)
 
--- a list of instructions: up to the end, or to `else` where one may stand. No list has more instructions than `fuel`,
--- which is how many bytes follow.
+-- what an opcode begins: the end of a list, `else` where one may stand, or an instruction and those behind it
+abbrev pub listed_from : (Bool → ℕ → Reader Listed) → Bool → ℕ → ℕ → ℕ → Reader Listed
+listed_from list with_else depth place opcode =
+    if opcode == 0x0B then give ([], false)
+    else (if opcode == 0x05 then (if with_else then give ([], true) else fail BadTag place)
+    else (do
+      x ← instruction_from list depth place opcode
+      xs ← list with_else depth
+      give (x ∷ xs.0, xs.1)))
+
+-- a list of instructions, with so many blocks open around it, up to the end, or to `else` where one may stand. No
+-- list has more instructions than `fuel`, which is how many bytes follow.
 abbrev pub instructions_at : ℕ → Bool → ℕ → Reader Listed
 instructions_at zero with_else depth = do
   place ← here
@@ -113,12 +123,7 @@ instructions_at zero with_else depth = do
 instructions_at (suc fuel) with_else depth = do
   place ← here
   opcode ← byte_at
-  if opcode == 0x0B then give ([], false)
-      else (if opcode == 0x05 then (if with_else then give ([], true) else fail BadTag place)
-      else (do
-        x ← instruction_from (instructions_at fuel) depth place opcode
-        xs ← instructions_at fuel with_else depth
-        give (x ∷ xs.0, xs.1)))
+  listed_from (instructions_at fuel) with_else depth place opcode
 
 -- an expression: instructions up to the end
 abbrev pub expression_at : Reader (List WInstr)

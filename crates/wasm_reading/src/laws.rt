@@ -1,3 +1,4 @@
+ghost use Rattle.wasm_reading.specs.Laws.{InstructionsNeedNoMore, SectionsNeedNoMore};
 ghost use Rattle.wasm_reading.specs.WorkedReadings.{TwoByteCount, LastByteTooGreat, IdDoesNotRise, FloatInABody, TooManyPages, CustomSectionTooLong, ContentStopsEarly};
 
 /// Byte lists that are written out: a module, and six first faults with their places.
@@ -9,4 +10,10 @@ pub fn worked_readings()
     ensures too_many_pages { TooManyPages }
     ensures custom_section_too_long { CustomSectionTooLong }
     ensures content_stops_early { ContentStopsEarly }
+{}
+
+/// A law: the numbers that bound how many instructions and sections are read bound nothing that bytes can hold.
+pub fn bytes_bound_reading()
+    ensures instructions { InstructionsNeedNoMore }
+    ensures sections { SectionsNeedNoMore }
 {}

@@ -1,0 +1,3 @@
+pub mod Shrinking
+pub mod ShrinkingEntries
+pub mod Fuel
