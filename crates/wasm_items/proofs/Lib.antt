@@ -2,3 +2,4 @@ pub mod ReaderLaws
 pub mod Taking
 pub mod LebSteps
 pub mod VectorSteps
+pub mod NamePlaces

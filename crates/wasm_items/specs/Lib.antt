@@ -2,3 +2,5 @@ pub mod Residuals
 pub mod LebStates
 pub mod Hunger
 pub mod Vectors
+pub mod LimitsStates
+pub mod NameStates
