@@ -1,0 +1,5 @@
+//! The decoder of WebAssembly modules: bytes in pieces of any length, and the module that they spell or their first fault.
+#![tactic(auto)]
+
+mod content;
+mod steps;
