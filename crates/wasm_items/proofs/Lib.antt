@@ -3,3 +3,5 @@ pub mod Taking
 pub mod LebSteps
 pub mod VectorSteps
 pub mod NamePlaces
+pub mod OpcodeKinds
+pub mod ImmediateSteps

@@ -1,6 +1,6 @@
 -- How readers that are made of others take a byte: each step of a state is one of these lemmas.
 -- Each is the definition of its reader, at the byte.
-use Rattle.std.proofs.Common.{◌≡◌, ℕ, ◌+◌, Bool, cond, Result, Ok, Err, ap, sym}
+use Rattle.std.proofs.Common.{◌≡◌, ℕ, ◌+◌, Bool, cond, Result, Ok, Err, inr, ap, sym}
 use Rattle.std.specs.Result.{IsErrAnd}
 use Rattle.wasm_reading.specs.declared.fault.DecodeError.{DecodeError}
 use Rattle.wasm_reading.specs.declared.fault.DecodeFault.{DecodeFault}
@@ -8,7 +8,7 @@ use Rattle.wasm_reading.specs.declared.fault.DecodeFault.TheVariants.{BadLength}
 use Rattle.wasm_reading.specs.Readers.{Reader, and_then, ◌>>=◌, give, here, byte_at}
 use Rattle.wasm_reading.specs.ReadValues.{tag_at, tagged}
 use Rattle.wasm_items.specs.declared.progress.Progress.{Progress}
-use Rattle.wasm_items.specs.Residuals.{Takes, stop, answered, placed}
+use Rattle.wasm_items.specs.Residuals.{Takes, stop, answered, Pushes, placed}
 
 -- A byte is read.
 pub takes_byte : {A : Type 0} (b at : ℕ) (f : ℕ → Reader A) → Takes (byte_at >>= f) b at (f b)
@@ -54,3 +54,8 @@ takes_tag_err b at of e = takes_as (tagged_err at (of b) e) (takes_tag b at of)
 pub takes_exit : {S A : Type 0} {old : Reader A} {b at : ℕ} (rest_of : S → Reader A) (answer : Result (Progress S A) DecodeError) {e : DecodeError} → IsErrAnd answer (λ given. given ≡ e) → Takes old b at (stop e) → Takes old b at (answered rest_of answer)
 takes_exit rest_of (Ok progress) is t = absurd is
 takes_exit rest_of (Err given) is t = takes_as (ap stop (sym is)) t
+
+-- The answer is another function's, which says what is read behind it.
+pub pushes_answered : {S A : Type 0} {old reader : Reader A} {b at : ℕ} (rest_of : S → Reader A) (answer : Result (Progress S A) DecodeError) → answered rest_of answer ≡ reader → Takes old b at reader → Pushes rest_of old b at answer
+pushes_answered rest_of (Ok progress) e t = takes_as (sym e) t
+pushes_answered rest_of (Err given) e t = inr (takes_as (sym e) t)

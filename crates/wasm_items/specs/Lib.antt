@@ -4,3 +4,5 @@ pub mod Hunger
 pub mod Vectors
 pub mod LimitsStates
 pub mod NameStates
+pub mod ImmediateStates
+pub mod ConstantStates

@@ -1,7 +1,11 @@
 //! Items of a WebAssembly module that are read a byte at a time.
 #![tactic(auto)]
 
+mod by_opcode;
+mod constant;
+mod immediates;
 mod item;
+mod kinds;
 mod laws;
 mod leb;
 mod limits;
@@ -12,7 +16,13 @@ mod progress;
 mod tags;
 mod vector;
 
+pub use by_opcode::{
+    const32_instruction, const64_instruction, index_zero_instruction, label_instruction,
+};
+pub use constant::ConstantState;
+pub use immediates::Immediates;
 pub use item::Item;
+pub use kinds::{constant_kind, kind_of, opcode_fault};
 pub use laws::each_state_wants_a_byte;
 pub use leb::{Leb32, Leb64};
 pub use limits::{LimitsState, MemoryState, TableState};
