@@ -50,6 +50,15 @@ abbrev pub Advances : Reader WModule → ℕ → ℕ → ℕ → WModule → Res
 Advances old b at last m (Ok step) = TakesAtTop old b at (rest_of_step (at + 1) last m step)
 Advances old b at last m (Err e) = (e ≡ no_memory) ⊎ TakesAtTop old b at (stop e)
 
+-- the id of the last section behind the size of one
+abbrev pub last_behind : ℕ → ℕ → ℕ
+last_behind id last = if id == 0 then last else id
+
+-- the answer at a place is what the residual `old` reads there, or want of memory
+abbrev pub Enters : Reader WModule → ℕ → ℕ → WModule → Result Step DecodeError → Type 0
+Enters old at last m (Ok step) = (bs : List ℕ) → old (record { at = at; end = None; rest = bs }) ≡ rest_of_step at last m step (record { at = at; end = None; rest = bs })
+Enters old at last m (Err e) = (e ≡ no_memory) ⊎ ((bs : List ℕ) → old (record { at = at; end = None; rest = bs }) ≡ Err e)
+
 -- numbers of a step that are in their ranges
 abbrev pub IsStep : ℕ → Step → Type 0
 IsStep last (steps.Preamble k) = k < 8

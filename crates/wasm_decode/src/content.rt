@@ -1,5 +1,7 @@
 // The content of a section, which is read a byte at a time and put into the module.
-ghost use Rattle.std.specs.Prelude.{◌+◌, ◌<◌, ◌^◌};
+ghost use Rattle.std.specs.Prelude.{◌≡◌, ◌+◌, ◌<◌, ◌≤◌, ◌^◌, length};
+ghost use Rattle.wasm_ast.specs.declared.modules.WModule.{WModule};
+ghost use Rattle.wasm_reading.specs.ReadModules.{content_at};
 ghost use Rattle.wasm_decode.specs.Contents.{rest_of_content, rest_of_funcs, rest_of_tables, rest_of_memories, rest_of_start, PushesInto};
 
 use std::alloc::Global;
@@ -17,6 +19,21 @@ pub enum Content {
 }
 
 impl Content {
+    /// The content of the section with this id, 1 to 11, of which nothing was read, where there are so many functions.
+    pub fn start(alloc: Global, id: u8, functions: usize, at: u64) -> Content
+        requires some { 0 < id }
+        requires known { id ≤ 11 }
+        ensures { (m : WModule) → length m.funcs ≡ functions → rest_of_content m result ≡ content_at id m }
+    {
+        match id {
+            3 => Content::Funcs(VectorState::start(alloc)),
+            4 => Content::Tables(VectorState::start(alloc)),
+            5 => Content::Memories(VectorState::start(alloc)),
+            8 => Content::Start(Leb32::unsigned()),
+            _ => unreachable!(),
+        }
+    }
+
     /// Takes the byte at this place; where it is the last one, what was read stands in the module.
     pub fn push(
         self,

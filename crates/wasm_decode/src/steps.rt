@@ -1,8 +1,8 @@
 // A module in the middle of its bytes, and what a byte makes of it.
-ghost use Rattle.std.specs.Prelude.{◌≡◌, ◌+◌, ◌-◌, ◌<◌, ◌≤◌, ◌^◌, ℕ, IfOk, Ok, nat_lt, if◌then◌else◌};
+ghost use Rattle.std.specs.Prelude.{◌≡◌, ◌+◌, ◌-◌, ◌<◌, ◌≤◌, ◌^◌, ℕ, IfOk, Ok, nat_lt, if◌then◌else◌, length};
 ghost use Rattle.wasm_reading.specs.declared.fault.DecodeFault.TheVariants.{BadMagic, BadVersion};
 ghost use Rattle.wasm_ast.specs.declared.modules.WModule.{WModule};
-ghost use Rattle.wasm_decode.specs.Steps.{rest_of_step, sized_left, custom_left, content_left, Advances, IsStep};
+ghost use Rattle.wasm_decode.specs.Steps.{rest_of_step, sized_left, custom_left, content_left, last_behind, Advances, Enters, IsStep};
 ghost use Rattle.wasm_decode.specs.Contents.{rest_of_content};
 
 use crate::content::Content;
@@ -101,4 +101,53 @@ pub fn take_custom(left: u32) -> Step
     ensures step { (last : ℕ) → IsStep last result }
 {
     custom(left - 1)
+}
+
+/// What is read behind the size of a section, where there are so many functions.
+fn enter(
+    alloc: Global,
+    id: u8,
+    size: u32,
+    at: u64,
+    functions: usize,
+) -> Result<Step, DecodeError>
+    requires { id ≤ 11 }
+    ensures { (last : ℕ) (m : WModule) → length m.funcs ≡ functions → Enters (sized_left id last m size) at (last_behind id last) m result }
+{
+    if id == 0 {
+        return Ok(custom(size));
+    }
+    if size == 0 {
+        return Err(fault_at(at, DecodeFault::BadLength));
+    }
+    Ok(Step::Content(size, Content::start(alloc, id, functions, at)))
+}
+
+/// A byte of the content of a section, of which so many bytes are left.
+pub fn take_content(
+    left: u32,
+    content: Content,
+    built: &mut WModule,
+    byte: u8,
+    at: u64,
+) -> Result<Step, DecodeError>
+    requires some { 0 < left }
+    requires place { at + 1 < 2 ^ 64 }
+    ensures { (last : ℕ) → Advances (content_left (at + left) (rest_of_content built.old content) last) byte at last built.new result }
+{
+    match content.push(built, byte, at) {
+        Ok(Some(content)) => {
+            if left == 1 {
+                return Err(fault_at(at + 1, DecodeFault::BadLength));
+            }
+            Ok(Step::Content(left - 1, content))
+        }
+        Ok(None) => {
+            if left == 1 {
+                return Ok(Step::Between);
+            }
+            Err(fault_at(at + 1, DecodeFault::BadLength))
+        }
+        Err(e) => Err(e),
+    }
 }
