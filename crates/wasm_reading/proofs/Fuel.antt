@@ -66,7 +66,7 @@ module _ (n : ℕ) (list list' : Bool → ℕ → Reader Listed) (h : (with_else
       (alike_then (alike_refl n (tag_at block_type_of)) (shrinks_tag _) (λ t. alike_then (h false (depth + 1)) (s false (depth + 1)) (λ xs. alike_refl n _)))))
       (alike_refl n (plain_at place opcode (kind_of opcode)))
 
-  alike_listed : (with_else : Bool) (depth place opcode : ℕ) → AlikeTo n (listed_from list with_else depth place opcode) (listed_from list' with_else depth place opcode)
+  pub alike_listed : (with_else : Bool) (depth place opcode : ℕ) → AlikeTo n (listed_from list with_else depth place opcode) (listed_from list' with_else depth place opcode)
   alike_listed with_else depth place opcode =
       alike_if (opcode == 0x0B) (alike_refl n _) (alike_if (opcode == 0x05) (alike_refl n _)
       (alike_then (alike_instruction depth place opcode) (shrinks_instruction s depth place opcode) (λ x. alike_then (h with_else depth) (s with_else depth) (λ xs. alike_refl n _))))

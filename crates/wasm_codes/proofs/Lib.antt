@@ -1,0 +1,7 @@
+pub mod ListSteps
+pub mod OpeningSteps
+pub mod ListEnds
+pub mod LocalSteps
+pub mod SizeSteps
+pub mod PlainSteps
+pub mod Hunger

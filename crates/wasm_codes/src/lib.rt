@@ -1,0 +1,13 @@
+//! An entry of a module's code section, read a byte at a time.
+#![tactic(auto)]
+
+mod blocks;
+mod body;
+mod code;
+mod function;
+mod lists;
+mod locals;
+mod stack;
+mod token;
+
+pub use code::CodeState;
