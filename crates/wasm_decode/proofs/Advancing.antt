@@ -1,8 +1,8 @@
 -- What a byte outside of a section's content makes of what is still read: each is the definition of reading, at the byte.
-use Rattle.std.proofs.Common.{◌≡◌, ◌∙◌, ℕ, zero, suc, ◌+◌, ◌-◌, ◌<◌, ◌≤◌, Bool, true, false, cond, List, [], ◌∷◌, length, refl, ap, sym, arith}
+use Rattle.std.proofs.Common.{◌≡◌, ◌∙◌, ℕ, zero, suc, ◌+◌, ◌-◌, ◌<◌, ◌≤◌, Bool, true, false, cond, List, [], ◌∷◌, length, refl, ap, sym, arith, inl, inr}
 use Rattle.std.proofs.Math.Path.{fun_ext}
 use Rattle.std.proofs.lemmas.Bool.{ne_eqb}
-use Rattle.std.specs.Prelude.{None, nat_lt, nat_le, ◌==◌, if◌then◌else◌, drop, slice_index}
+use Rattle.std.specs.Prelude.{None, Result, Ok, Err, nat_lt, nat_le, ◌==◌, if◌then◌else◌, drop, slice_index}
 use Rattle.wasm_ast.specs.declared.modules.WModule.{WModule}
 use Rattle.wasm_grammar.specs.CanonicalModules.{preamble}
 use Rattle.wasm_reading.specs.declared.fault.DecodeError.{DecodeError}
@@ -14,9 +14,11 @@ use Rattle.wasm_reading.specs.ReadModules.{preamble_at, sections_at, section_fro
 use Rattle.wasm_reading.proofs.Shrinking.{shrinks_sized}
 use Rattle.wasm_reading.proofs.ShrinkingEntries.{shrinks_content, shrinks_custom}
 use Rattle.wasm_reading.proofs.Fuel.{AlikeTo, alike_refl, alike_then, sections_alike}
+use Rattle.wasm_items.proofs.Taking.{takes_then}
 use Rattle.wasm_items.proofs.ReaderLaws.{then_then, then_same}
 use Rattle.wasm_items.specs.Residuals.{Takes, stop}
-use Rattle.wasm_decode.specs.Steps.{TakesAtTop, sections_left, custom_left, content_left, sized_left}
+use Rattle.wasm_decode.specs.declared.steps.Step.{Step}
+use Rattle.wasm_decode.specs.Steps.{TakesAtTop, Advances, Enters, sections_left, custom_left, content_left, sized_left}
 
 -- outside of any declared end
 pub at_top : {old new : Reader WModule} {b at : ℕ} → Takes old b at new → TakesAtTop old b at new
@@ -28,7 +30,7 @@ top_as e t = rw e at t
 pub top_of : {old other new : Reader WModule} {b at : ℕ} → other ≡ old → TakesAtTop old b at new → TakesAtTop other b at new
 top_of e t = rw e t
 
-preamble_bytes : (k : ℕ) → k < 8 → drop k preamble ≡ slice_index preamble k ∷ drop (k + 1) preamble
+pub preamble_bytes : (k : ℕ) → k < 8 → drop k preamble ≡ slice_index preamble k ∷ drop (k + 1) preamble
 preamble_bytes zero h = refl
 preamble_bytes (suc zero) h = refl
 preamble_bytes (suc (suc zero)) h = refl
@@ -140,3 +142,29 @@ section_begins b at last m number same e k l =
           ∙ content_same b at last m bs e;
     } in
     rw same begins
+
+-- behind the last byte of a size
+pub entered : {old : Reader ℕ} (f : ℕ → Reader WModule) {b at size : ℕ} (m : WModule) (last : ℕ) (answer : Result Step DecodeError) → Takes old b at (give size) → Enters (f size) (at + 1) last m answer →
+    Advances (old >>= f) b at last m answer
+entered {old} f {b} {at} {size} m last (Ok step) t h = record { same = λ bs. (takes_then f t).same None bs refl ∙ h bs }
+entered {old} f {b} {at} {size} m last (Err e) t (inl memory) = inl memory
+entered {old} f {b} {at} {size} m last (Err e) t (inr h) = inr (record { same = λ bs. (takes_then f t).same None bs refl ∙ h bs })
+
+drop_none : (k : ℕ) → drop k (let none : List ℕ = [] in none) ≡ []
+drop_none zero = refl
+drop_none (suc k) = refl
+
+no_bytes_left : (k : ℕ) → 8 ≤ k → drop k preamble ≡ []
+no_bytes_left zero h = absurd (omega arith)
+no_bytes_left (suc zero) h = absurd (omega arith)
+no_bytes_left (suc (suc zero)) h = absurd (omega arith)
+no_bytes_left (suc (suc (suc zero))) h = absurd (omega arith)
+no_bytes_left (suc (suc (suc (suc zero)))) h = absurd (omega arith)
+no_bytes_left (suc (suc (suc (suc (suc zero))))) h = absurd (omega arith)
+no_bytes_left (suc (suc (suc (suc (suc (suc zero)))))) h = absurd (omega arith)
+no_bytes_left (suc (suc (suc (suc (suc (suc (suc zero))))))) h = absurd (omega arith)
+no_bytes_left (suc (suc (suc (suc (suc (suc (suc (suc k)))))))) h = drop_none k
+
+-- no byte of the preamble is left
+pub preamble_over : (k last : ℕ) (m : WModule) → 8 ≤ k → behind_preamble k (drop k preamble) last m ≡ sections_left last m
+preamble_over k last m h = ap (λ bytes. behind_preamble k bytes last m) (no_bytes_left k h)

@@ -1,8 +1,9 @@
 -- A module in the middle of its bytes (WebAssembly Core Specification 1.0, section 5.5); the states are this project's own.
-use Rattle.std.specs.Prelude.{◌≡◌, ℕ, ◌+◌, ◌<◌, ◌≤◌, ◌==◌, ◌⊎◌, if◌then◌else◌, List, ◌∷◌, length, drop, None, Result, Ok, Err}
+use Rattle.std.specs.Prelude.{◌≡◌, ℕ, ◌+◌, ◌<◌, ◌≤◌, ◌==◌, ◌⊎◌, if◌then◌else◌, List, [], ◌∷◌, length, drop, None, Result, Ok, Err}
 use Rattle.wasm_ast.specs.declared.modules.WModule.{WModule}
 use Rattle.wasm_grammar.specs.CanonicalModules.{preamble}
 use Rattle.wasm_reading.specs.declared.fault.DecodeError.{DecodeError}
+use Rattle.wasm_reading.specs.declared.fault.DecodeFault.TheVariants.{Truncated}
 use Rattle.wasm_reading.specs.Readers.{Reader, ◌>>=◌, give, here, byte_at, each_at, within}
 use Rattle.wasm_reading.specs.ReadModules.{preamble_at, sections_at, content_at}
 use Rattle.wasm_items.specs.LebStates.{rest_of_leb}
@@ -38,8 +39,8 @@ abbrev pub rest_of_step : ℕ → ℕ → WModule → Step → Reader WModule
 rest_of_step at last m (steps.Preamble k) = do _ ← preamble_at k (drop k preamble); sections_left last m
 rest_of_step at last m steps.Between = sections_left last m
 rest_of_step at last m (steps.Size id number) = do size ← rest_of_leb number; sized_left id last m size
-rest_of_step at last m (steps.Custom left) = custom_left left last m
-rest_of_step at last m (steps.Content left content) = content_left (at + left) (rest_of_content m content) last
+rest_of_step at last m (steps.Custom behind) = custom_left (behind + 1) last m
+rest_of_step at last m (steps.Content behind content) = content_left (at + (behind + 1)) (rest_of_content m content) last
 
 -- Outside of any declared end, the reader `old` takes the byte `b` at the place `at` and reads on as `new`.
 pub record TakesAtTop (old : Reader WModule) (b at : ℕ) (new : Reader WModule) : Type 0 where
@@ -59,10 +60,6 @@ abbrev pub Enters : Reader WModule → ℕ → ℕ → WModule → Result Step D
 Enters old at last m (Ok step) = (bs : List ℕ) → old (record { at = at; end = None; rest = bs }) ≡ rest_of_step at last m step (record { at = at; end = None; rest = bs })
 Enters old at last m (Err e) = (e ≡ no_memory) ⊎ ((bs : List ℕ) → old (record { at = at; end = None; rest = bs }) ≡ Err e)
 
--- numbers of a step that are in their ranges
-abbrev pub IsStep : ℕ → Step → Type 0
-IsStep last (steps.Preamble k) = k < 8
-IsStep last (steps.Size id number) = id ≤ 11
-IsStep last (steps.Custom left) = 0 < left
-IsStep last (steps.Content left content) = 0 < left
-IsStep last steps.Between = Unit {0}
+-- an input that ends at this place ends inside the preamble or a section
+abbrev pub IsTruncated : Reader WModule → ℕ → Type 0
+IsTruncated reader at = reader (record { at = at; end = None; rest = [] }) ≡ Err (record { at = at; fault = Truncated })

@@ -2,4 +2,9 @@
 #![tactic(auto)]
 
 mod content;
+mod decoded;
+mod decoder;
 mod steps;
+
+pub use decoded::Decoded;
+pub use decoder::Decoder;

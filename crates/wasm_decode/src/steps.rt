@@ -1,8 +1,8 @@
 // A module in the middle of its bytes, and what a byte makes of it.
-ghost use Rattle.std.specs.Prelude.{◌≡◌, ◌+◌, ◌-◌, ◌<◌, ◌≤◌, ◌^◌, ℕ, IfOk, Ok, nat_lt, if◌then◌else◌, length};
+ghost use Rattle.std.specs.Prelude.{◌≡◌, ◌+◌, ◌-◌, ◌<◌, ◌≤◌, ◌^◌, ℕ, Ok, nat_lt, if◌then◌else◌, length, IsTrue, IsFalse};
 ghost use Rattle.wasm_reading.specs.declared.fault.DecodeFault.TheVariants.{BadMagic, BadVersion};
 ghost use Rattle.wasm_ast.specs.declared.modules.WModule.{WModule};
-ghost use Rattle.wasm_decode.specs.Steps.{rest_of_step, sized_left, custom_left, content_left, last_behind, Advances, Enters, IsStep};
+ghost use Rattle.wasm_decode.specs.Steps.{rest_of_step, sections_left, sized_left, custom_left, content_left, last_behind, Advances, Enters, IsTruncated};
 ghost use Rattle.wasm_decode.specs.Contents.{rest_of_content};
 
 use crate::content::Content;
@@ -26,9 +26,9 @@ pub enum Step {
     Between,
     /// The size of the section with this id.
     Size(u8, Leb32),
-    /// So many bytes of a custom section.
+    /// A byte of a custom section, of which so many stand behind it.
     Custom(u32),
-    /// The content of a section, of which so many bytes are left.
+    /// A byte of the content of a section, of which so many stand behind it.
     Content(u32, Content),
 }
 
@@ -38,20 +38,20 @@ fn fault_at(at: u64, fault: DecodeFault) -> DecodeError
     DecodeError { at, fault }
 }
 
-/// A byte of the preamble.
-pub fn take_preamble(index: usize, byte: u8, at: u64) -> Result<Step, DecodeError>
-    requires { index < 8 }
-    ensures advances { (last : ℕ) (m : WModule) → Advances (rest_of_step at last m (Step.Preamble index)) byte at last m result }
-    ensures step { (last : ℕ) → IfOk result (IsStep last) }
+/// A byte of the preamble, or behind it, where the last section had the id `last`.
+pub fn take_preamble(index: usize, last: u8, byte: u8, at: u64) -> Result<Step, DecodeError>
+    ensures { (m : WModule) → Advances (rest_of_step at last m (Step.Preamble index)) byte at last m result }
 {
+    if index >= PREAMBLE.len() {
+        return take_id(last, byte, at);
+    }
     if byte != PREAMBLE[index] {
         return Err(fault_at(at, preamble_fault(index)));
     }
     if index == 7 {
-        Ok(Step::Between)
-    } else {
-        Ok(Step::Preamble(index + 1))
+        return Ok(Step::Between);
     }
+    Ok(Step::Preamble(index + 1))
 }
 
 /// What is wrong where the byte of the preamble with this number is another one.
@@ -67,8 +67,7 @@ fn preamble_fault(index: usize) -> DecodeFault
 
 /// The id of a section behind one with the id `last`.
 pub fn take_id(last: u8, byte: u8, at: u64) -> Result<Step, DecodeError>
-    ensures advances { (m : WModule) → Advances (rest_of_step at last m Step.Between) byte at last m result }
-    ensures step { IfOk result (IsStep last) }
+    ensures { (m : WModule) → Advances (rest_of_step at last m Step.Between) byte at last m result }
 {
     if byte == 0 {
         return Ok(Step::Size(0, Leb32::unsigned()));
@@ -83,24 +82,28 @@ pub fn take_id(last: u8, byte: u8, at: u64) -> Result<Step, DecodeError>
 }
 
 /// So many bytes of a custom section, of which there may be none.
-fn custom(left: u32) -> Step
-    ensures rest { (at last : ℕ) (m : WModule) → rest_of_step at last m result ≡ custom_left left last m }
-    ensures step { (last : ℕ) → IsStep last result }
+fn custom(size: u32) -> Step
+    ensures { (at last : ℕ) (m : WModule) → rest_of_step at last m result ≡ custom_left size last m }
 {
-    if left == 0 {
+    if size == 0 {
         Step::Between
     } else {
-        Step::Custom(left)
+        Step::Custom(size - 1)
     }
 }
 
-/// A byte of a custom section, which stands for nothing.
-pub fn take_custom(left: u32) -> Step
-    requires { 0 < left }
-    ensures advances { (b at last : ℕ) (m : WModule) → Advances (rest_of_step at last m (Step.Custom left)) b at last m (Ok result) }
-    ensures step { (last : ℕ) → IsStep last result }
+/// A byte of a custom section, which stands for nothing, before so many others.
+pub fn take_custom(behind: u32) -> Step
+    ensures { (b at last : ℕ) (m : WModule) → Advances (rest_of_step at last m (Step.Custom behind)) b at last m (Ok result) }
 {
-    custom(left - 1)
+    custom(behind)
+}
+
+/// The id of the last section, behind the size of the one with the id `id`: a custom section has none.
+fn id_behind(id: u8, last: u8) -> u8
+    ensures { result ≡ last_behind id last }
+{
+    if id == 0 { last } else { id }
 }
 
 /// What is read behind the size of a section, where there are so many functions.
@@ -111,7 +114,6 @@ fn enter(
     at: u64,
     functions: usize,
 ) -> Result<Step, DecodeError>
-    requires { id ≤ 11 }
     ensures { (last : ℕ) (m : WModule) → length m.funcs ≡ functions → Enters (sized_left id last m size) at (last_behind id last) m result }
 {
     if id == 0 {
@@ -120,34 +122,90 @@ fn enter(
     if size == 0 {
         return Err(fault_at(at, DecodeFault::BadLength));
     }
-    Ok(Step::Content(size, Content::start(alloc, id, functions, at)))
+    Ok(Step::Content(size - 1, Content::start(alloc, id, functions, at)))
 }
 
-/// A byte of the content of a section, of which so many bytes are left.
+/// A byte of the content of a section, before so many others.
 pub fn take_content(
-    left: u32,
+    behind: u32,
     content: Content,
     built: &mut WModule,
     byte: u8,
     at: u64,
 ) -> Result<Step, DecodeError>
-    requires some { 0 < left }
-    requires place { at + 1 < 2 ^ 64 }
-    ensures { (last : ℕ) → Advances (content_left (at + left) (rest_of_content built.old content) last) byte at last built.new result }
+    requires { at + 1 < 2 ^ 64 }
+    ensures { (last : ℕ) → Advances (content_left (at + (behind + 1)) (rest_of_content built.old content) last) byte at last built.new result }
 {
     match content.push(built, byte, at) {
         Ok(Some(content)) => {
-            if left == 1 {
+            if behind == 0 {
                 return Err(fault_at(at + 1, DecodeFault::BadLength));
             }
-            Ok(Step::Content(left - 1, content))
+            Ok(Step::Content(behind - 1, content))
         }
         Ok(None) => {
-            if left == 1 {
+            if behind == 0 {
                 return Ok(Step::Between);
             }
             Err(fault_at(at + 1, DecodeFault::BadLength))
         }
         Err(e) => Err(e),
+    }
+}
+
+/// A byte at this place. `last` is the id of the last section, and `built` the module so far.
+pub fn advance(
+    alloc: Global,
+    step: Step,
+    last: &mut u8,
+    built: &mut WModule,
+    byte: u8,
+    at: u64,
+) -> Result<Step, DecodeError>
+    requires { at + 1 < 2 ^ 64 }
+    ensures { Advances (rest_of_step at last.old built.old step) byte at last.new built.new result }
+{
+    match step {
+        Step::Preamble(index) => take_preamble(index, *last, byte, at),
+        Step::Between => take_id(*last, byte, at),
+        Step::Size(id, number) => take_size(alloc, id, number, last, built, byte, at),
+        Step::Custom(behind) => Ok(take_custom(behind)),
+        Step::Content(behind, content) => take_content(behind, content, built, byte, at),
+    }
+}
+
+/// A byte of the size of the section with this id.
+fn take_size(
+    alloc: Global,
+    id: u8,
+    number: Leb32,
+    last: &mut u8,
+    built: &WModule,
+    byte: u8,
+    at: u64,
+) -> Result<Step, DecodeError>
+    requires { at + 1 < 2 ^ 64 }
+    ensures { Advances (rest_of_step at last.old built.now (Step.Size id number)) byte at last.new built.now result }
+{
+    match number.push(byte, at)? {
+        Progress::More(number) => Ok(Step::Size(id, number)),
+        Progress::Done(size) => {
+            *last = id_behind(id, *last);
+            enter(alloc, id, size, at + 1, built.funcs.len())
+        }
+    }
+}
+
+/// Whether the input may not end here: it may end only behind the preamble or a section.
+pub fn wants_a_byte(step: &Step) -> bool
+    ensures yes { IsTrue result → (at last : ℕ) (m : WModule) → IsTruncated (rest_of_step at last m step.now) at }
+    ensures no { IsFalse result → (at last : ℕ) (m : WModule) → rest_of_step at last m step.now ≡ sections_left last m }
+{
+    match step {
+        Step::Preamble(index) => *index < PREAMBLE.len(),
+        Step::Between => false,
+        Step::Size(..) => true,
+        Step::Custom(..) => true,
+        Step::Content(..) => true,
     }
 }
