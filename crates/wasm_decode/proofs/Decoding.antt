@@ -1,5 +1,5 @@
 -- What a decoder answers: from a byte to the next, and at the end of the input.
-use Rattle.std.proofs.Common.{◌≡◌, ◌∙◌, ℕ, suc, ◌+◌, ◌<◌, ◌≤◌, Bool, true, false, List, [], ◌∷◌, length, refl, ap, sym, arith}
+use Rattle.std.proofs.Common.{◌≡◌, ◌∙◌, ℕ, suc, ◌+◌, ◌<◌, ◌≤◌, Bool, true, false, List, [], ◌∷◌, length, refl, ap, sym, arith, ◌⊎◌, inl, inr}
 use Rattle.std.proofs.lemmas.Bool.{ne_eqb, eq-eqb}
 use Rattle.std.specs.Prelude.{Option, None, Some, Ok, Err, Result, ◌==◌, if◌then◌else◌, drop, slice_index}
 use Rattle.wasm_ast.specs.declared.modules.WModule.{WModule}
@@ -9,7 +9,7 @@ use Rattle.wasm_reading.specs.declared.fault.DecodeFault.TheVariants.{Truncated,
 use Rattle.wasm_reading.specs.Readers.{Input, Reader, and_then, ◌>>=◌, give, fail, byte_at, each_at, ended, within}
 use Rattle.wasm_reading.specs.ReadModules.{preamble_at, sections_at, without_rest, empty_module, reading_of}
 use Rattle.wasm_items.specs.LebStates.{LebState, rest_of_leb}
-use Rattle.wasm_items.specs.Residuals.{IsHungry, stop}
+use Rattle.wasm_items.specs.Residuals.{IsHungry, stop, no_memory}
 use Rattle.wasm_items.specs.Hunger.{hungry_then, hungry_here, hungry_byte, hungry_leb}
 use Rattle.wasm_decode.specs.declared.content.Content.{Content}
 use Rattle.wasm_decode.specs.Contents.{rest_of_content}
@@ -123,3 +123,13 @@ answer_new d is at last built step bytes =
     ∙ ap (λ (id : ℕ). without_rest (rest_of_step 0 id d.built d.step (record { at = 0; end = None; rest = bytes }))) last
     ∙ ap (λ (m : WModule). without_rest (rest_of_step 0 0 m d.step (record { at = 0; end = None; rest = bytes }))) built
     ∙ ap (λ (s : Step). without_rest (rest_of_step 0 0 empty_module s (record { at = 0; end = None; rest = bytes }))) step
+
+pub answer_stopped_or : (d : Decoder) (b : ℕ) (e : DecodeError) → d.failed ≡ None → (e ≡ no_memory) ⊎ TakesAtTop (rest_of_step d.at d.last d.built d.step) b d.at (stop e) →
+    (e ≡ no_memory) ⊎ ((rest : List ℕ) → answer_of d (b ∷ rest) ≡ Err e)
+answer_stopped_or d b e is (inl memory) = inl memory
+answer_stopped_or d b e is (inr t) = inr (answer_stopped d b e is t)
+
+-- a module without entries
+pub no_entries : (m : WModule) → m.types ≡ [] → m.imports ≡ [] → m.funcs ≡ [] → m.tables ≡ [] → m.memories ≡ [] → m.globals ≡ [] → m.exports ≡ [] → m.start ≡ None → m.elements ≡ [] → m.codes ≡ [] →
+    m.segments ≡ [] → m ≡ empty_module
+no_entries m a b c d e f g h i j k = λ x. record { types = a x; imports = b x; funcs = c x; tables = d x; memories = e x; globals = f x; exports = g x; start = h x; elements = i x; codes = j x; segments = k x }

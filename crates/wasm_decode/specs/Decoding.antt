@@ -10,6 +10,10 @@ use Rattle.wasm_decode.specs.Steps.{rest_of_step}
 abbrev pub error_of : Decoder → Option DecodeError
 error_of d = d.failed
 
+-- how many bytes were taken
+abbrev pub at_of : Decoder → ℕ
+at_of d = d.at
+
 -- the module so far
 abbrev pub built_of : Decoder → WModule
 built_of d = d.built

@@ -1,5 +1,5 @@
 // The decoder, which is fed pieces.
-ghost use Rattle.std.specs.Prelude.{◌≡◌, ◌++◌, ◌∷◌, List, [], ℕ, Some, None, Ok, Err, OnOk, IfOk, IfErr, ◌⊎◌};
+ghost use Rattle.std.specs.Prelude.{◌≡◌, ◌++◌, ◌∷◌, ◌+◌, ◌<◌, ◌^◌, List, [], ℕ, Some, None, Ok, Err, OnOk, IfOk, IfErr, ◌⊎◌};
 ghost use Rattle.wasm_reading.specs.declared.fault.DecodeError.{DecodeError};
 ghost use Rattle.wasm_reading.specs.ReadModules.{reading_of};
 ghost use Rattle.wasm_items.specs.Residuals.{no_memory};
@@ -23,7 +23,7 @@ pub struct Decoder {
 }
 
 impl Decoder {
-    ghost use Rattle.wasm_decode.specs.Decoding.{answer_of, built_of, error_of};
+    ghost use Rattle.wasm_decode.specs.Decoding.{answer_of, at_of, built_of, error_of};
 
     /// A decoder of which nothing was fed.
     pub fn new(alloc: Global) -> Decoder
@@ -60,9 +60,19 @@ impl Decoder {
         ensures kept { IfErr result (λ e. error_of self.new ≡ Some e) }
         ensures again { (e : DecodeError) → error_of self.old ≡ Some e → result ≡ Err e }
     {
-        if let Some(e) = self.failed {
-            return Err(e);
+        match self.failed {
+            Some(e) => Err(e),
+            None => self.take(piece),
         }
+    }
+
+    /// The same where no error was answered.
+    fn take(&mut self, piece: &[u8]) -> Result<(), DecodeError>
+        requires { error_of self.old ≡ None }
+        ensures ok { OnOk result ((rest : List ℕ) → answer_of self.new rest ≡ answer_of self.old (piece.now ++ rest)) }
+        ensures err { IfErr result (λ e. (e ≡ no_memory) ⊎ ((rest : List ℕ) → answer_of self.old (piece.now ++ rest) ≡ Err e)) }
+        ensures kept { IfErr result (λ e. error_of self.new ≡ Some e) }
+    {
         for byte in piece {
             self.push(*byte)?;
         }
@@ -86,12 +96,20 @@ impl Decoder {
         let step = mem::replace(&mut self.step, Step::Between);
         match advance(self.alloc, step, &mut self.last, &mut self.built, byte, self.at) {
             Ok(step) => {
-                self.step = step;
-                self.at += 1;
+                self.set(step);
                 Ok(())
             }
             Err(e) => self.fail(e),
         }
+    }
+
+    /// The byte was taken, and this is read next.
+    fn set(&mut self, step: Step)
+        requires { at_of self.old + 1 < 2 ^ 64 }
+        ensures { self.new ≡ record self.old { at = at_of self.old + 1; step = step } }
+    {
+        self.step = step;
+        self.at += 1;
     }
 
     fn fail(&mut self, e: DecodeError) -> Result<(), DecodeError>
@@ -107,10 +125,15 @@ impl Decoder {
         ensures ok { IfOk result (λ decoded. answer_of self [] ≡ Ok decoded) }
         ensures err { IfErr result (λ e. answer_of self [] ≡ Err e) }
     {
-        match self.ending() {
-            Ok(()) => Ok(Decoded::new(self.built)),
-            Err(e) => Err(e),
-        }
+        let ending = self.ending();
+        decoded(self.into_module(), ending)
+    }
+
+    /// The module so far.
+    fn into_module(self) -> WModule
+        ensures { result ≡ built_of self }
+    {
+        self.built
     }
 
     /// Whether the input may end here, where it has as many codes as functions.
@@ -118,9 +141,18 @@ impl Decoder {
         ensures ok { OnOk result (answer_of self.now [] ≡ Ok (built_of self.now)) }
         ensures err { IfErr result (λ e. answer_of self.now [] ≡ Err e) }
     {
-        if let Some(e) = self.failed {
-            return Err(e);
+        match self.failed {
+            Some(e) => Err(e),
+            None => self.complete(),
         }
+    }
+
+    /// The same where no error was answered.
+    fn complete(&self) -> Result<(), DecodeError>
+        requires { error_of self.now ≡ None }
+        ensures ok { OnOk result (answer_of self.now [] ≡ Ok (built_of self.now)) }
+        ensures err { IfErr result (λ e. answer_of self.now [] ≡ Err e) }
+    {
         if wants_a_byte(&self.step) {
             return Err(DecodeError {
                 at: self.at,
@@ -134,5 +166,17 @@ impl Decoder {
             });
         }
         Ok(())
+    }
+}
+
+/// A module, or why there is none.
+fn decoded(built: WModule, ending: Result<(), DecodeError>) -> Result<Decoded, DecodeError>
+    ensures ok { IfOk result (λ decoded. decoded ≡ built) }
+    ensures whole { OnOk result (ending ≡ Ok tt) }
+    ensures err { IfErr result (λ e. ending ≡ Err e) }
+{
+    match ending {
+        Ok(()) => Ok(Decoded::new(built)),
+        Err(e) => Err(e),
     }
 }
