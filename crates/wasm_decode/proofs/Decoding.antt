@@ -1,6 +1,7 @@
 -- What a decoder answers: from a byte to the next, and at the end of the input.
-use Rattle.std.proofs.Common.{◌≡◌, ◌∙◌, ℕ, suc, ◌+◌, ◌<◌, ◌≤◌, Bool, true, false, List, [], ◌∷◌, length, refl, ap, sym, arith, ◌⊎◌, inl, inr}
+use Rattle.std.proofs.Common.{◌≡◌, ◌∙◌, ℕ, suc, ◌+◌, ◌<◌, ◌≤◌, Bool, true, false, List, [], ◌∷◌, length, refl, ap, sym, arith, ◌⊎◌, inl, inr, ◌++◌}
 use Rattle.std.proofs.lemmas.Bool.{ne_eqb, eq-eqb}
+use Rattle.std.proofs.lemmas.List.{append-nil}
 use Rattle.std.specs.Prelude.{Option, None, Some, Ok, Err, Result, ◌==◌, if◌then◌else◌, drop, slice_index}
 use Rattle.wasm_ast.specs.declared.modules.WModule.{WModule}
 use Rattle.wasm_grammar.specs.CanonicalModules.{preamble}
@@ -133,3 +134,9 @@ answer_stopped_or d b e is (inr t) = inr (answer_stopped d b e is t)
 pub no_entries : (m : WModule) → m.types ≡ [] → m.imports ≡ [] → m.funcs ≡ [] → m.tables ≡ [] → m.memories ≡ [] → m.globals ≡ [] → m.exports ≡ [] → m.start ≡ None → m.elements ≡ [] → m.codes ≡ [] →
     m.segments ≡ [] → m ≡ empty_module
 no_entries m a b c d e f g h i j k = λ x. record { types = a x; imports = b x; funcs = c x; tables = d x; memories = e x; globals = f x; exports = g x; start = h x; elements = i x; codes = j x; segments = k x }
+
+-- the first fault of a whole input
+pub whole_fault : (d : Decoder) (bytes : List ℕ) (e : DecodeError) → ((bs : List ℕ) → answer_of d bs ≡ reading_of bs) → (e ≡ no_memory) ⊎ ((rest : List ℕ) → answer_of d (bytes ++ rest) ≡ Err e) →
+    (e ≡ no_memory) ⊎ (reading_of bytes ≡ Err e)
+whole_fault d bytes e starts (inl memory) = inl memory
+whole_fault d bytes e starts (inr stops) = inr (sym (starts bytes) ∙ ap (answer_of d) (sym (append-nil bytes)) ∙ stops [])

@@ -5,6 +5,8 @@ mod content;
 mod decoded;
 mod decoder;
 mod steps;
+mod whole;
 
 pub use decoded::Decoded;
 pub use decoder::Decoder;
+pub use whole::decode;
