@@ -1,0 +1,5 @@
+pub mod Advancing
+pub mod InContents
+pub mod HungryContents
+pub mod CodeSteps
+pub mod Decoding

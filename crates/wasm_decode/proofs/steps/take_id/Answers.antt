@@ -1,0 +1,10 @@
+use Rattle.std.proofs.lemmas.Bool.{ne_eqb, lt-ltb, le-ltb, le-leb, lt-leb}
+use Rattle.wasm_decode.proofs.Advancing.{custom_begins, section_begins, no_section, no_order}
+use Rattle.wasm_decode.proofs.steps.take_id.Goals as goal
+
+pub returns-then-byte-eq0 : goal.returns-then-byte-eq0
+returns-then-byte-eq0 c = λ m. custom_begins c.args.byte c.args.at c.args.last m _ c.unsigned.ensures c.if-byte-eq0.true
+
+pub returns : goal.returns
+returns c = λ m.
+    section_begins c.args.byte c.args.at c.args.last m _ c.unsigned-2.ensures (ne_eqb _ _ c.if-byte-eq0.false) (le-ltb _ _ c.if-byte-gt-LAST_ID.false) (lt-leb _ _ c.if-byte-last.false)

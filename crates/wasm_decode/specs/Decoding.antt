@@ -1,0 +1,28 @@
+-- A decoder in the middle, and what it answers where its input goes on in this way; this project's own.
+use Rattle.std.specs.Prelude.{ℕ, List, Option, None, Some, Result, Ok, Err}
+use Rattle.wasm_ast.specs.declared.modules.WModule.{WModule}
+use Rattle.wasm_reading.specs.declared.fault.DecodeError.{DecodeError}
+use Rattle.wasm_reading.specs.ReadModules.{without_rest}
+use Rattle.wasm_decode.specs.declared.decoder.Decoder.{Decoder}
+use Rattle.wasm_decode.specs.Steps.{rest_of_step}
+
+-- the error that a decoder answered, if there was one
+abbrev pub error_of : Decoder → Option DecodeError
+error_of d = d.failed
+
+-- how many bytes were taken
+abbrev pub at_of : Decoder → ℕ
+at_of d = d.at
+
+-- the module so far
+abbrev pub built_of : Decoder → WModule
+built_of d = d.built
+
+-- the error that was answered, or else this
+abbrev pub error_or : Option DecodeError → Result WModule DecodeError → Result WModule DecodeError
+error_or None answer = answer
+error_or (Some e) answer = Err e
+
+-- the answer to an input that goes on by these bytes and then ends
+unfoldable pub answer_of : Decoder → List ℕ → Result WModule DecodeError
+answer_of d rest = error_or d.failed (without_rest (rest_of_step d.at d.last d.built d.step (record { at = d.at; end = None; rest = rest })))

@@ -1,0 +1,182 @@
+// The decoder, which is fed pieces.
+ghost use Rattle.std.specs.Prelude.{◌≡◌, ◌++◌, ◌∷◌, ◌+◌, ◌<◌, ◌^◌, List, [], ℕ, Some, None, Ok, Err, OnOk, IfOk, IfErr, ◌⊎◌};
+ghost use Rattle.wasm_reading.specs.declared.fault.DecodeError.{DecodeError};
+ghost use Rattle.wasm_reading.specs.ReadModules.{reading_of};
+ghost use Rattle.wasm_items.specs.Residuals.{no_memory};
+
+use crate::decoded::Decoded;
+use crate::steps::{Step, advance, wants_a_byte};
+use std::alloc::Global;
+use std::mem;
+use wasm_ast::{List, WModule};
+use wasm_reading::{DecodeError, DecodeFault};
+
+/// A decoder in the middle of its input. It keeps the module so far, and no copy of the input.
+#[derive(Drop)]
+pub struct Decoder {
+    alloc: Global,
+    at: u64,
+    last: u8,
+    built: WModule,
+    step: Step,
+    failed: Option<DecodeError>,
+}
+
+impl Decoder {
+    ghost use Rattle.wasm_decode.specs.Decoding.{answer_of, at_of, built_of, error_of};
+
+    /// A decoder of which nothing was fed.
+    pub fn new(alloc: Global) -> Decoder
+        ensures starts { (bytes : List ℕ) → answer_of result bytes ≡ reading_of bytes }
+        ensures whole { error_of result ≡ None }
+    {
+        Decoder {
+            alloc,
+            at: 0,
+            last: 0,
+            built: WModule {
+                types: List::new(alloc),
+                imports: List::new(alloc),
+                funcs: List::new(alloc),
+                tables: List::new(alloc),
+                memories: List::new(alloc),
+                globals: List::new(alloc),
+                exports: List::new(alloc),
+                start: None,
+                elements: List::new(alloc),
+                codes: List::new(alloc),
+                segments: List::new(alloc),
+            },
+            step: Step::Preamble(0),
+            failed: None,
+        }
+    }
+
+    /// Takes the next piece of the input. After an error every later call answers that error. `Memory` comes also
+    /// where the input has 2^64 - 1 bytes or more.
+    pub fn feed(&mut self, piece: &[u8]) -> Result<(), DecodeError>
+        ensures ok { OnOk result ((rest : List ℕ) → answer_of self.new rest ≡ answer_of self.old (piece.now ++ rest)) }
+        ensures err { IfErr result (λ e. (e ≡ no_memory) ⊎ ((rest : List ℕ) → answer_of self.old (piece.now ++ rest) ≡ Err e)) }
+        ensures kept { IfErr result (λ e. error_of self.new ≡ Some e) }
+        ensures again { (e : DecodeError) → error_of self.old ≡ Some e → result ≡ Err e }
+    {
+        match self.failed {
+            Some(e) => Err(e),
+            None => self.take(piece),
+        }
+    }
+
+    /// The same where no error was answered.
+    fn take(&mut self, piece: &[u8]) -> Result<(), DecodeError>
+        requires { error_of self.old ≡ None }
+        ensures ok { OnOk result ((rest : List ℕ) → answer_of self.new rest ≡ answer_of self.old (piece.now ++ rest)) }
+        ensures err { IfErr result (λ e. (e ≡ no_memory) ⊎ ((rest : List ℕ) → answer_of self.old (piece.now ++ rest) ≡ Err e)) }
+        ensures kept { IfErr result (λ e. error_of self.new ≡ Some e) }
+    {
+        for byte in piece {
+            self.push(*byte)?;
+        }
+        Ok(())
+    }
+
+    /// Takes a byte.
+    fn push(&mut self, byte: u8) -> Result<(), DecodeError>
+        requires { error_of self.old ≡ None }
+        ensures ok { OnOk result ((rest : List ℕ) → answer_of self.new rest ≡ answer_of self.old (byte ∷ rest)) }
+        ensures whole { OnOk result (error_of self.new ≡ None) }
+        ensures err { IfErr result (λ e. (e ≡ no_memory) ⊎ ((rest : List ℕ) → answer_of self.old (byte ∷ rest) ≡ Err e)) }
+        ensures kept { IfErr result (λ e. error_of self.new ≡ Some e) }
+    {
+        if self.at >= u64::MAX - 1 {
+            return self.fail(DecodeError {
+                at: 0,
+                fault: DecodeFault::Memory,
+            });
+        }
+        let step = mem::replace(&mut self.step, Step::Between);
+        match advance(self.alloc, step, &mut self.last, &mut self.built, byte, self.at) {
+            Ok(step) => {
+                self.set(step);
+                Ok(())
+            }
+            Err(e) => self.fail(e),
+        }
+    }
+
+    /// The byte was taken, and this is read next.
+    fn set(&mut self, step: Step)
+        requires { at_of self.old + 1 < 2 ^ 64 }
+        ensures { self.new ≡ record self.old { at = at_of self.old + 1; step = step } }
+    {
+        self.step = step;
+        self.at += 1;
+    }
+
+    fn fail(&mut self, e: DecodeError) -> Result<(), DecodeError>
+        ensures result { result ≡ Err e }
+        ensures kept { error_of self.new ≡ Some e }
+    {
+        self.failed = Some(e);
+        Err(e)
+    }
+
+    /// The module that the input spells, or its first fault. After an error of `feed` it is that error.
+    pub fn finish(self) -> Result<Decoded, DecodeError>
+        ensures ok { IfOk result (λ decoded. answer_of self [] ≡ Ok decoded) }
+        ensures err { IfErr result (λ e. answer_of self [] ≡ Err e) }
+    {
+        let ending = self.ending();
+        decoded(self.into_module(), ending)
+    }
+
+    /// The module so far.
+    fn into_module(self) -> WModule
+        ensures { result ≡ built_of self }
+    {
+        self.built
+    }
+
+    /// Whether the input may end here, where it has as many codes as functions.
+    fn ending(&self) -> Result<(), DecodeError>
+        ensures ok { OnOk result (answer_of self.now [] ≡ Ok (built_of self.now)) }
+        ensures err { IfErr result (λ e. answer_of self.now [] ≡ Err e) }
+    {
+        match self.failed {
+            Some(e) => Err(e),
+            None => self.complete(),
+        }
+    }
+
+    /// The same where no error was answered.
+    fn complete(&self) -> Result<(), DecodeError>
+        requires { error_of self.now ≡ None }
+        ensures ok { OnOk result (answer_of self.now [] ≡ Ok (built_of self.now)) }
+        ensures err { IfErr result (λ e. answer_of self.now [] ≡ Err e) }
+    {
+        if wants_a_byte(&self.step) {
+            return Err(DecodeError {
+                at: self.at,
+                fault: DecodeFault::Truncated,
+            });
+        }
+        if self.built.codes.len() != self.built.funcs.len() {
+            return Err(DecodeError {
+                at: self.at,
+                fault: DecodeFault::CountMismatch,
+            });
+        }
+        Ok(())
+    }
+}
+
+/// A module, or why there is none.
+fn decoded(built: WModule, ending: Result<(), DecodeError>) -> Result<Decoded, DecodeError>
+    ensures ok { IfOk result (λ decoded. decoded ≡ built) }
+    ensures whole { OnOk result (ending ≡ Ok tt) }
+    ensures err { IfErr result (λ e. ending ≡ Err e) }
+{
+    match ending {
+        Ok(()) => Ok(Decoded::new(built)),
+        Err(e) => Err(e),
+    }
+}

@@ -1,0 +1,12 @@
+//! The decoder of WebAssembly modules: bytes in pieces of any length, and the module that they spell or their first fault.
+#![tactic(auto)]
+
+mod content;
+mod decoded;
+mod decoder;
+mod steps;
+mod whole;
+
+pub use decoded::Decoded;
+pub use decoder::Decoder;
+pub use whole::decode;
