@@ -1,0 +1,5 @@
+//! Tests of the decoder over inputs that are written out, fed whole and byte by byte.
+#![tactic(auto)]
+
+#[cfg(test)]
+mod rows;
