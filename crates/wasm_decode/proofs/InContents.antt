@@ -7,7 +7,7 @@ use Rattle.wasm_reading.specs.declared.fault.DecodeError.{DecodeError}
 use Rattle.wasm_reading.specs.declared.fault.DecodeFault.TheVariants.{BadLength}
 use Rattle.wasm_reading.specs.Readers.{Input, Reader, and_then, ◌>>=◌, give, ended, within}
 use Rattle.wasm_items.specs.Residuals.{IsHungry, stop}
-use Rattle.wasm_codes.specs.Sizes.{TakesBefore}
+use Rattle.wasm_codes.specs.Places.{TakesBefore}
 use Rattle.wasm_decode.specs.Steps.{TakesAtTop, sections_left, content_left}
 
 abbrev bad_length : ℕ → DecodeError
