@@ -1,6 +1,5 @@
 -- What a byte outside of a section's content makes of what is still read: each is the definition of reading, at the byte.
-use Rattle.std.proofs.Common.{◌≡◌, ◌∙◌, ℕ, zero, suc, ◌+◌, ◌-◌, ◌<◌, ◌≤◌, Bool, true, false, cond, List, [], ◌∷◌, length, refl, ap, sym, arith, inl, inr}
-use Rattle.std.proofs.Math.Path.{fun_ext}
+use Rattle.std.proofs.Common.{◌≡◌, ◌∙◌, ℕ, zero, suc, ◌+◌, ◌<◌, ◌≤◌, Bool, true, false, List, [], ◌∷◌, length, refl, ap, sym, arith, inl, inr}
 use Rattle.std.proofs.lemmas.Bool.{ne_eqb}
 use Rattle.std.specs.Prelude.{None, Result, Ok, Err, nat_lt, nat_le, ◌==◌, if◌then◌else◌, drop, slice_index}
 use Rattle.wasm_ast.specs.declared.modules.WModule.{WModule}
@@ -10,7 +9,7 @@ use Rattle.wasm_reading.specs.declared.fault.DecodeFault.{DecodeFault}
 use Rattle.wasm_reading.specs.declared.fault.DecodeFault.TheVariants.{BadMagic, BadVersion, BadTag, BadOrder}
 use Rattle.wasm_reading.specs.Readers.{Input, Reader, and_then, ◌>>=◌, give, fail, here, byte_at, each_at, within}
 use Rattle.wasm_reading.specs.ReadValues.{u32_at, sized_at}
-use Rattle.wasm_reading.specs.ReadModules.{preamble_at, sections_at, section_from, content_at, custom_at}
+use Rattle.wasm_reading.specs.ReadModules.{preamble_at, sections_at, content_at, custom_at}
 use Rattle.wasm_reading.proofs.Shrinking.{shrinks_sized}
 use Rattle.wasm_reading.proofs.ShrinkingEntries.{shrinks_content, shrinks_custom}
 use Rattle.wasm_reading.proofs.Fuel.{AlikeTo, alike_refl, alike_then, sections_alike}

@@ -1,14 +1,14 @@
 -- What a decoder answers: from a byte to the next, and at the end of the input.
-use Rattle.std.proofs.Common.{◌≡◌, ◌∙◌, ℕ, suc, ◌+◌, ◌<◌, ◌≤◌, Bool, true, false, List, [], ◌∷◌, length, refl, ap, sym, arith, ◌⊎◌, inl, inr, ◌++◌}
+use Rattle.std.proofs.Common.{◌≡◌, ◌∙◌, ℕ, suc, ◌+◌, ◌<◌, Bool, true, false, List, [], ◌∷◌, length, refl, ap, sym, arith, ◌⊎◌, inl, inr, ◌++◌}
 use Rattle.std.proofs.lemmas.Bool.{ne_eqb, eq-eqb}
 use Rattle.std.proofs.lemmas.List.{append-nil}
-use Rattle.std.specs.Prelude.{Option, None, Some, Ok, Err, Result, ◌==◌, if◌then◌else◌, drop, slice_index}
+use Rattle.std.specs.Prelude.{Option, None, Some, Ok, Err, ◌==◌, if◌then◌else◌, drop, slice_index}
 use Rattle.wasm_ast.specs.declared.modules.WModule.{WModule}
 use Rattle.wasm_grammar.specs.CanonicalModules.{preamble}
 use Rattle.wasm_reading.specs.declared.fault.DecodeError.{DecodeError}
 use Rattle.wasm_reading.specs.declared.fault.DecodeFault.TheVariants.{Truncated, CountMismatch, BadLength}
-use Rattle.wasm_reading.specs.Readers.{Input, Reader, and_then, ◌>>=◌, give, fail, byte_at, each_at, ended, within}
-use Rattle.wasm_reading.specs.ReadModules.{preamble_at, sections_at, without_rest, empty_module, reading_of}
+use Rattle.wasm_reading.specs.Readers.{Input, Reader, and_then, ◌>>=◌, give, fail, byte_at, each_at, ended}
+use Rattle.wasm_reading.specs.ReadModules.{without_rest, empty_module, reading_of}
 use Rattle.wasm_items.specs.LebStates.{LebState, rest_of_leb}
 use Rattle.wasm_items.specs.Residuals.{IsHungry, stop, no_memory}
 use Rattle.wasm_items.specs.Hunger.{hungry_then, hungry_here, hungry_byte, hungry_leb}

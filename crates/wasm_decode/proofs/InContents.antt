@@ -1,11 +1,11 @@
 -- What a byte inside the content of a section makes of what is still read.
-use Rattle.std.proofs.Common.{◌≡◌, ◌∙◌, ℕ, suc, ◌+◌, ◌-◌, ◌<◌, ◌≤◌, Bool, true, false, List, [], ◌∷◌, refl, ap, sym, arith, ◌⊎◌, inl, inr}
+use Rattle.std.proofs.Common.{◌≡◌, ◌∙◌, ℕ, ◌+◌, ◌<◌, Bool, true, false, List, refl, ap, sym, arith}
 use Rattle.std.proofs.lemmas.Bool.{ne_eqb, eq-eqb}
 use Rattle.std.specs.Prelude.{None, Some, Ok, Err, ◌==◌, if◌then◌else◌}
 use Rattle.wasm_ast.specs.declared.modules.WModule.{WModule}
 use Rattle.wasm_reading.specs.declared.fault.DecodeError.{DecodeError}
 use Rattle.wasm_reading.specs.declared.fault.DecodeFault.TheVariants.{BadLength}
-use Rattle.wasm_reading.specs.Readers.{Input, Reader, and_then, ◌>>=◌, give, ended, within}
+use Rattle.wasm_reading.specs.Readers.{Reader, and_then, give, ended}
 use Rattle.wasm_items.specs.Residuals.{IsHungry, stop}
 use Rattle.wasm_codes.specs.Places.{TakesBefore}
 use Rattle.wasm_decode.specs.Steps.{TakesAtTop, sections_left, content_left}

@@ -3,3 +3,4 @@ pub mod InContents
 pub mod HungryContents
 pub mod CodeSteps
 pub mod Decoding
+pub mod WholeInputs

@@ -1,10 +1,10 @@
 -- A module in the middle of its bytes (WebAssembly Core Specification 1.0, section 5.5); the states are this project's own.
-use Rattle.std.specs.Prelude.{◌≡◌, ℕ, ◌+◌, ◌<◌, ◌≤◌, ◌==◌, ◌⊎◌, if◌then◌else◌, List, [], ◌∷◌, length, drop, None, Result, Ok, Err}
+use Rattle.std.specs.Prelude.{◌≡◌, ℕ, ◌+◌, ◌==◌, ◌⊎◌, if◌then◌else◌, List, [], ◌∷◌, length, drop, None, Result, Ok, Err}
 use Rattle.wasm_ast.specs.declared.modules.WModule.{WModule}
 use Rattle.wasm_grammar.specs.CanonicalModules.{preamble}
 use Rattle.wasm_reading.specs.declared.fault.DecodeError.{DecodeError}
 use Rattle.wasm_reading.specs.declared.fault.DecodeFault.TheVariants.{Truncated}
-use Rattle.wasm_reading.specs.Readers.{Reader, ◌>>=◌, give, here, byte_at, each_at, within}
+use Rattle.wasm_reading.specs.Readers.{Reader, ◌>>=◌, here, byte_at, each_at, within}
 use Rattle.wasm_reading.specs.ReadModules.{preamble_at, sections_at, content_at}
 use Rattle.wasm_items.specs.LebStates.{rest_of_leb}
 use Rattle.wasm_items.specs.Residuals.{stop, no_memory}

@@ -7,7 +7,9 @@ ghost use Rattle.wasm_decode.specs.Contents.{rest_of_content, rest_of_types, res
 use std::alloc::Global;
 use wasm_ast::{Code, List, WModule};
 use wasm_codes::CodeState;
-use wasm_entries::{ElementState, ExportState, FuncTypeState, GlobalState, ImportState, SegmentState};
+use wasm_entries::{
+    ElementState, ExportState, FuncTypeState, GlobalState, ImportState, SegmentState,
+};
 use wasm_items::{Item, Leb32, MemoryState, Progress, TableState, VectorState, append};
 use wasm_reading::{DecodeError, DecodeFault};
 
@@ -342,12 +344,7 @@ fn push_codes(
 }
 
 /// So many codes behind those that were read, which stand in the module where there are none.
-fn codes(
-    alloc: Global,
-    before: List<Code>,
-    count: u32,
-    module: &mut WModule,
-) -> Option<Content>
+fn codes(alloc: Global, before: List<Code>, count: u32, module: &mut WModule) -> Option<Content>
     ensures { rest_behind_codes «module».new result ≡ more_codes «module».old before count }
 {
     if count == 0 {

@@ -12,7 +12,6 @@ pub struct Decoded {
 
 impl Model for Decoded {
     ghost use Rattle.wasm_ast.specs.declared.modules.WModule.{WModule};
-
     ghost use Rattle.std.specs.Coded.{codes};
     ghost use Rattle.wasm_ast.specs.contracts.instructions.WInstr as instr;
 

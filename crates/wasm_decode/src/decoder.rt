@@ -94,7 +94,14 @@ impl Decoder {
             });
         }
         let step = mem::replace(&mut self.step, Step::Between);
-        match advance(self.alloc, step, &mut self.last, &mut self.built, byte, self.at) {
+        match advance(
+            self.alloc,
+            step,
+            &mut self.last,
+            &mut self.built,
+            byte,
+            self.at,
+        ) {
             Ok(step) => {
                 self.set(step);
                 Ok(())

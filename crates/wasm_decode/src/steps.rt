@@ -107,13 +107,7 @@ fn id_behind(id: u8, last: u8) -> u8
 }
 
 /// What is read behind the size of a section, where there are so many functions.
-fn enter(
-    alloc: Global,
-    id: u8,
-    size: u32,
-    at: u64,
-    functions: usize,
-) -> Result<Step, DecodeError>
+fn enter(alloc: Global, id: u8, size: u32, at: u64, functions: usize) -> Result<Step, DecodeError>
     ensures { (last : ℕ) (m : WModule) → length m.funcs ≡ functions → Enters (sized_left id last m size) at (last_behind id last) m result }
 {
     if id == 0 {

@@ -1,5 +1,5 @@
-use Rattle.std.proofs.lemmas.Bool.{ne_eqb, lt-ltb, le-ltb, le-leb, lt-leb}
-use Rattle.wasm_decode.proofs.Advancing.{custom_begins, section_begins, no_section, no_order}
+use Rattle.std.proofs.lemmas.Bool.{ne_eqb, le-ltb, lt-leb}
+use Rattle.wasm_decode.proofs.Advancing.{custom_begins, section_begins}
 use Rattle.wasm_decode.proofs.steps.take_id.Goals as goal
 
 pub returns-then-byte-eq0 : goal.returns-then-byte-eq0
