@@ -1,6 +1,6 @@
 -- What a decoder answers: from a byte to the next, and at the end of the input.
-use Rattle.std.proofs.Common.{◌≡◌, ◌∙◌, ℕ, suc, ◌+◌, ◌<◌, Bool, true, false, List, [], ◌∷◌, length, refl, ap, sym, arith, ◌⊎◌, inl, inr, ◌++◌}
-use Rattle.std.proofs.lemmas.Bool.{ne_eqb, eq-eqb}
+use Rattle.std.proofs.Common.{◌≡◌, ◌∙◌, ℕ, suc, ◌+◌, ◌-◌, ◌<◌, Result, Bool, true, false, List, [], ◌∷◌, length, refl, ap, sym, arith, ◌⊎◌, inl, inr, ◌++◌}
+use Rattle.std.proofs.lemmas.Bool.{ne_eqb, eq-eqb, eqb-true, eqb-false}
 use Rattle.std.proofs.lemmas.List.{append-nil}
 use Rattle.std.specs.Prelude.{Option, None, Some, Ok, Err, ◌==◌, if◌then◌else◌, drop, slice_index}
 use Rattle.wasm_ast.specs.declared.modules.WModule.{WModule}
@@ -12,13 +12,13 @@ use Rattle.wasm_reading.specs.ReadModules.{without_rest, empty_module, reading_o
 use Rattle.wasm_items.specs.LebStates.{LebState, rest_of_leb}
 use Rattle.wasm_items.specs.Residuals.{IsHungry, stop, no_memory}
 use Rattle.wasm_items.specs.Hunger.{hungry_then, hungry_here, hungry_byte, hungry_leb}
-use Rattle.wasm_decode.specs.declared.content.Content.{Content}
+use Rattle.wasm_decode.specs.declared.content.Content as content
 use Rattle.wasm_decode.specs.Contents.{rest_of_content}
 use Rattle.wasm_decode.specs.declared.decoder.Decoder.{Decoder}
 use Rattle.wasm_decode.specs.declared.steps.Step.{Step}
-use Rattle.wasm_decode.specs.declared.steps.Step.TheVariants.{Preamble}
+use Rattle.wasm_decode.specs.declared.steps.Step.TheVariants.{Preamble, Between, Size, Custom, Content}
 use Rattle.wasm_decode.specs.Decoding.{answer_of, error_or}
-use Rattle.wasm_decode.specs.Steps.{TakesAtTop, IsTruncated, rest_of_step, sections_left, content_left, custom_left, sized_left}
+use Rattle.wasm_decode.specs.Steps.{custom_bytes, custom_step, TakesAtTop, IsTruncated, rest_of_step, sections_left, content_left, custom_left, sized_left}
 use Rattle.wasm_decode.proofs.Advancing.{behind_preamble, preamble_bytes}
 use Rattle.wasm_decode.proofs.HungryContents.{hungry_content}
 
@@ -72,7 +72,7 @@ otherwise true x y e = absurd (cc)
 otherwise false x y e = refl
 
 -- a content of which bytes are left
-pub content_truncated : (behind at last : ℕ) (m : WModule) (state : Content) → IsTruncated (content_left (at + (behind + 1)) (rest_of_content m state) last) at
+pub content_truncated : (behind at last : ℕ) (m : WModule) (state : content.Content) → IsTruncated (content_left (at + (behind + 1)) (rest_of_content m state) last) at
 content_truncated behind at last m state =
     let end : ℕ = at + (behind + 1) in
     ap (λ o. and_then (and_then o (ended None (at + (behind + 1)))) (λ m'. sections_left last m'))
@@ -140,3 +140,33 @@ pub whole_fault : (d : Decoder) (bytes : List ℕ) (e : DecodeError) → ((bs : 
     (e ≡ no_memory) ⊎ (reading_of bytes ≡ Err e)
 whole_fault d bytes e starts (inl memory) = inl memory
 whole_fault d bytes e starts (inr stops) = inr (sym (starts bytes) ∙ ap (answer_of d) (sym (append-nil bytes)) ∙ stops [])
+
+custom_of : (s : Step) → 0 < custom_bytes s → (behind : ℕ) × (s ≡ Custom behind)
+custom_of (Custom behind) h = (behind, refl)
+custom_of (Preamble k) h = absurd (omega arith)
+custom_of Between h = absurd (omega arith)
+custom_of (Size id number) h = absurd (omega arith)
+custom_of (Content behind content) h = absurd (omega arith)
+
+left_by : (behind : ℕ) (t : Bool) → t ≡ (behind == 0) → custom_bytes (if t then Between else Custom (behind - 1)) ≡ behind
+left_by behind true e = let none : behind ≡ 0 = eqb-true _ _ (sym e) in omega (arith, none)
+left_by behind false e = let some : behind ≡ 0 → ⊥ = eqb-false _ _ (sym e) in omega (arith, some)
+
+-- a byte of a custom section is taken, and leaves a byte less
+pub custom_taken : (s : Step) (answer : Result Step DecodeError) → ((behind : ℕ) → s ≡ Custom behind → answer ≡ Ok (custom_step behind)) → 0 < custom_bytes s →
+    (behind : ℕ) × (custom_bytes s ≡ behind + 1) × (answer ≡ Ok (custom_step behind)) × (custom_bytes (custom_step behind) ≡ behind)
+custom_taken s answer h some =
+    let found = custom_of s some in
+    (found.0, ap custom_bytes found.1, h found.0 found.1, left_by found.0 (found.0 == 0) refl)
+
+pub custom_no_error : (s : Step) (e : DecodeError) → ((behind : ℕ) → s ≡ Custom behind → (let answer : Result Step DecodeError = Err e in answer) ≡ Ok (custom_step behind)) → 0 < custom_bytes s → ⊥
+custom_no_error s e h some = let found = custom_taken s (Err e) h some in let both = found.2 in absurd (cc)
+
+pub custom_less : (s s' : Step) → ((behind : ℕ) → s ≡ Custom behind → (let answer : Result Step DecodeError = Ok s' in answer) ≡ Ok (custom_step behind)) → 0 < custom_bytes s → custom_bytes s' ≡ custom_bytes s - 1
+custom_less s s' h some =
+    let found = custom_taken s (Ok s') h some in
+    let both = found.2 in
+    let same : s' ≡ custom_step found.0 = cc in
+    let left : custom_bytes s' ≡ found.0 = ap custom_bytes same ∙ found.3 in
+    let whole : custom_bytes s ≡ found.0 + 1 = found.1 in
+    omega (arith, left, whole)

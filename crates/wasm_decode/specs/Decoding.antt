@@ -4,7 +4,7 @@ use Rattle.wasm_ast.specs.declared.modules.WModule.{WModule}
 use Rattle.wasm_reading.specs.declared.fault.DecodeError.{DecodeError}
 use Rattle.wasm_reading.specs.ReadModules.{without_rest}
 use Rattle.wasm_decode.specs.declared.decoder.Decoder.{Decoder}
-use Rattle.wasm_decode.specs.Steps.{rest_of_step}
+use Rattle.wasm_decode.specs.Steps.{rest_of_step, custom_bytes}
 
 -- the error that a decoder answered, if there was one
 abbrev pub error_of : Decoder → Option DecodeError
@@ -13,6 +13,10 @@ error_of d = d.failed
 -- how many bytes were taken
 abbrev pub at_of : Decoder → ℕ
 at_of d = d.at
+
+-- how many bytes are left of the content of a custom section, where one was begun
+abbrev pub custom_left_of : Decoder → ℕ
+custom_left_of d = custom_bytes d.step
 
 -- the module so far
 abbrev pub built_of : Decoder → WModule

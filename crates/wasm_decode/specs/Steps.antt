@@ -1,5 +1,5 @@
 -- A module in the middle of its bytes (WebAssembly Core Specification 1.0, section 5.5); the states are this project's own.
-use Rattle.std.specs.Prelude.{◌≡◌, ℕ, ◌+◌, ◌==◌, ◌⊎◌, if◌then◌else◌, List, [], ◌∷◌, length, drop, None, Result, Ok, Err}
+use Rattle.std.specs.Prelude.{◌≡◌, ℕ, ◌+◌, ◌-◌, ◌==◌, ◌⊎◌, if◌then◌else◌, List, [], ◌∷◌, length, drop, None, Result, Ok, Err}
 use Rattle.wasm_ast.specs.declared.modules.WModule.{WModule}
 use Rattle.wasm_grammar.specs.CanonicalModules.{preamble}
 use Rattle.wasm_reading.specs.declared.fault.DecodeError.{DecodeError}
@@ -59,6 +59,15 @@ last_behind id last = if id == 0 then last else id
 abbrev pub Enters : Reader WModule → ℕ → ℕ → WModule → Result Step DecodeError → Type 0
 Enters old at last m (Ok step) = (bs : List ℕ) → old (record { at = at; end = None; rest = bs }) ≡ rest_of_step at last m step (record { at = at; end = None; rest = bs })
 Enters old at last m (Err e) = (e ≡ no_memory) ⊎ ((bs : List ℕ) → old (record { at = at; end = None; rest = bs }) ≡ Err e)
+
+-- what is read behind a byte of a custom section, before so many others
+abbrev pub custom_step : ℕ → Step
+custom_step behind = if behind == 0 then steps.Between else steps.Custom (behind - 1)
+
+-- how many bytes of the content of a custom section are left
+abbrev pub custom_bytes : Step → ℕ
+custom_bytes (steps.Custom behind) = behind + 1
+custom_bytes _ = 0
 
 -- an input that ends at this place ends inside the preamble or a section
 abbrev pub IsTruncated : Reader WModule → ℕ → Type 0

@@ -1,5 +1,5 @@
 // The decoder, which is fed pieces.
-ghost use Rattle.std.specs.Prelude.{◌≡◌, ◌++◌, ◌∷◌, ◌+◌, ◌<◌, ◌^◌, List, [], ℕ, Some, None, Ok, Err, OnOk, IfOk, IfErr, ◌⊎◌};
+ghost use Rattle.std.specs.Prelude.{◌≡◌, ◌++◌, ◌∷◌, ◌+◌, ◌-◌, ◌<◌, ◌≤◌, ◌^◌, length, IsOk, List, [], ℕ, Some, None, Ok, Err, OnOk, IfOk, IfErr, ◌⊎◌};
 ghost use Rattle.wasm_reading.specs.declared.fault.DecodeError.{DecodeError};
 ghost use Rattle.wasm_reading.specs.ReadModules.{reading_of};
 ghost use Rattle.wasm_items.specs.Residuals.{no_memory};
@@ -23,7 +23,7 @@ pub struct Decoder {
 }
 
 impl Decoder {
-    ghost use Rattle.wasm_decode.specs.Decoding.{answer_of, at_of, built_of, error_of};
+    ghost use Rattle.wasm_decode.specs.Decoding.{answer_of, at_of, built_of, custom_left_of, error_of};
 
     /// A decoder of which nothing was fed.
     pub fn new(alloc: Global) -> Decoder
@@ -52,13 +52,15 @@ impl Decoder {
         }
     }
 
-    /// Takes the next piece of the input. After an error every later call answers that error. `Memory` comes also
-    /// where the input has 2^64 - 1 bytes or more.
+    /// Takes the next piece of the input. After an error every later call answers that error. A piece that lies in the
+    /// content of a custom section takes no memory and has no fault. `Memory` comes also where the input has 2^64 - 1
+    /// bytes or more.
     pub fn feed(&mut self, piece: &[u8]) -> Result<(), DecodeError>
         ensures ok { OnOk result ((rest : List ℕ) → answer_of self.new rest ≡ answer_of self.old (piece.now ++ rest)) }
         ensures err { IfErr result (λ e. (e ≡ no_memory) ⊎ ((rest : List ℕ) → answer_of self.old (piece.now ++ rest) ≡ Err e)) }
         ensures kept { IfErr result (λ e. error_of self.new ≡ Some e) }
         ensures again { (e : DecodeError) → error_of self.old ≡ Some e → result ≡ Err e }
+        ensures custom { error_of self.old ≡ None → length piece.now ≤ custom_left_of self.old → at_of self.old + length piece.now < 2 ^ 64 - 1 → IsOk result }
     {
         match self.failed {
             Some(e) => Err(e),
@@ -72,6 +74,7 @@ impl Decoder {
         ensures ok { OnOk result ((rest : List ℕ) → answer_of self.new rest ≡ answer_of self.old (piece.now ++ rest)) }
         ensures err { IfErr result (λ e. (e ≡ no_memory) ⊎ ((rest : List ℕ) → answer_of self.old (piece.now ++ rest) ≡ Err e)) }
         ensures kept { IfErr result (λ e. error_of self.new ≡ Some e) }
+        ensures custom { length piece.now ≤ custom_left_of self.old → at_of self.old + length piece.now < 2 ^ 64 - 1 → IsOk result }
     {
         for byte in piece {
             self.push(*byte)?;
@@ -86,6 +89,9 @@ impl Decoder {
         ensures whole { OnOk result (error_of self.new ≡ None) }
         ensures err { IfErr result (λ e. (e ≡ no_memory) ⊎ ((rest : List ℕ) → answer_of self.old (byte ∷ rest) ≡ Err e)) }
         ensures kept { IfErr result (λ e. error_of self.new ≡ Some e) }
+        ensures counted { OnOk result (at_of self.new ≡ at_of self.old + 1) }
+        ensures custom { 0 < custom_left_of self.old → at_of self.old + 1 < 2 ^ 64 - 1 → IsOk result }
+        ensures left { OnOk result (0 < custom_left_of self.old → custom_left_of self.new ≡ custom_left_of self.old - 1) }
     {
         if self.at >= u64::MAX - 1 {
             return self.fail(DecodeError {

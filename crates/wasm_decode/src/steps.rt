@@ -2,7 +2,7 @@
 ghost use Rattle.std.specs.Prelude.{◌≡◌, ◌+◌, ◌-◌, ◌<◌, ◌≤◌, ◌^◌, ℕ, Ok, nat_lt, if◌then◌else◌, length, IsTrue, IsFalse};
 ghost use Rattle.wasm_reading.specs.declared.fault.DecodeFault.TheVariants.{BadMagic, BadVersion};
 ghost use Rattle.wasm_ast.specs.declared.modules.WModule.{WModule};
-ghost use Rattle.wasm_decode.specs.Steps.{rest_of_step, sections_left, sized_left, custom_left, content_left, last_behind, Advances, Enters, IsTruncated};
+ghost use Rattle.wasm_decode.specs.Steps.{rest_of_step, sections_left, sized_left, custom_left, content_left, last_behind, custom_step, Advances, Enters, IsTruncated};
 ghost use Rattle.wasm_decode.specs.Contents.{rest_of_content};
 
 use crate::content::Content;
@@ -83,7 +83,8 @@ pub fn take_id(last: u8, byte: u8, at: u64) -> Result<Step, DecodeError>
 
 /// So many bytes of a custom section, of which there may be none.
 fn custom(size: u32) -> Step
-    ensures { (at last : ℕ) (m : WModule) → rest_of_step at last m result ≡ custom_left size last m }
+    ensures rest { (at last : ℕ) (m : WModule) → rest_of_step at last m result ≡ custom_left size last m }
+    ensures step { result ≡ custom_step size }
 {
     if size == 0 {
         Step::Between
@@ -94,7 +95,8 @@ fn custom(size: u32) -> Step
 
 /// A byte of a custom section, which stands for nothing, before so many others.
 pub fn take_custom(behind: u32) -> Step
-    ensures { (b at last : ℕ) (m : WModule) → Advances (rest_of_step at last m (Step.Custom behind)) b at last m (Ok result) }
+    ensures advances { (b at last : ℕ) (m : WModule) → Advances (rest_of_step at last m (Step.Custom behind)) b at last m (Ok result) }
+    ensures step { result ≡ custom_step behind }
 {
     custom(behind)
 }
@@ -157,7 +159,8 @@ pub fn advance(
     at: u64,
 ) -> Result<Step, DecodeError>
     requires { at + 1 < 2 ^ 64 }
-    ensures { Advances (rest_of_step at last.old built.old step) byte at last.new built.new result }
+    ensures advances { Advances (rest_of_step at last.old built.old step) byte at last.new built.new result }
+    ensures custom { (behind : ℕ) → step ≡ Step.Custom behind → result ≡ Ok (custom_step behind) }
 {
     match step {
         Step::Preamble(index) => take_preamble(index, *last, byte, at),
