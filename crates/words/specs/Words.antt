@@ -45,14 +45,18 @@ GivesName values name = (values ≡ name ∷ []) × (is_plain_name name ≡ true
 pub data Command : Type 0 where
   -- a binary under a name of a file, with so many pages of the linear part and of the unrestricted region
   build : (lin unr : ℕ) (name file : List ℕ) → Command
+  -- the counts of a binary
+  dump : (file : List ℕ) → Command
 
 -- the first word
 abbrev pub command_word : Command → List ℕ
 command_word (build lin unr name file) = codes "build"
+command_word (dump file) = codes "dump"
 
 -- the options that a command may have
 abbrev pub flags_of : Command → List (List ℕ)
 flags_of (build lin unr name file) = codes "-o" ∷ codes "--lin" ∷ codes "--unr" ∷ []
+flags_of (dump file) = []
 
 -- what its options give
 abbrev pub HasSettings : Command → List Setting → Type 0
@@ -60,14 +64,17 @@ HasSettings (build lin unr name file) settings =
     GivesNumber 1 512 16 (values_for (codes "--lin") settings) lin
     × GivesNumber 0 512 16 (values_for (codes "--unr") settings) unr
     × GivesName (values_for (codes "-o") settings) name
+HasSettings (dump file) settings = Unit {0}
 
 -- the words after the options
 abbrev pub files_of : Command → List (List ℕ)
 files_of (build lin unr name file) = file ∷ []
+files_of (dump file) = file ∷ []
 
 -- which files a command takes
 abbrev pub HasFiles : Command → Type 0
 HasFiles (build lin unr name file) = is_source_file file ≡ true
+HasFiles (dump file) = is_plain_name file ≡ true
 
 -- words of the plain form spell a command
 pub record SpellsCommand (words : List (List ℕ)) (command : Command) : Type 0 where

@@ -27,6 +27,7 @@ use std::alloc::{AllocError, Global};
 #[derive(Clone, Copy)]
 pub enum Command<'a> {
     Build(Build<'a>),
+    Dump(Dump<'a>),
 }
 
 /// The command `build`: a binary under `name` of the file `file`, with `lin` pages of the linear part and `unr`
@@ -36,6 +37,12 @@ pub struct Build<'a> {
     pub lin: u32,
     pub unr: u32,
     pub name: &'a str,
+    pub file: &'a str,
+}
+
+/// The command `dump`: the counts of the binary `file`; this project's own.
+#[derive(Clone, Copy)]
+pub struct Dump<'a> {
     pub file: &'a str,
 }
 
@@ -65,5 +72,7 @@ fn is_same(read: &Command<'_>, plain: &Command<'_>) -> bool
                 && read.name == plain.name
                 && read.file == plain.file
         }
+        (Command::Dump(read), Command::Dump(plain)) => read.file == plain.file,
+        _ => false,
     }
 }

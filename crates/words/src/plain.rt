@@ -3,11 +3,11 @@ ghost use Rattle.std.specs.Prelude.{◌≡◌, ◌∷◌, ℕ, List, map, string
 ghost use Rattle.std.specs.Option.{option_map};
 ghost use Rattle.words.specs.Words.{SpellsCommand};
 ghost use Rattle.words.specs.Found.{Finds};
-ghost use Rattle.words.specs.Commands.{spelled_command, spelled_build, HasPages};
+ghost use Rattle.words.specs.Commands.{spelled_command, spelled_build, spelled_dump, HasPages};
 
-use crate::files::is_source;
+use crate::files::{is_plain, is_source};
 use crate::options::{have_flags, name_for, number_for, only_file};
-use crate::{Build, Command};
+use crate::{Build, Command, Dump};
 
 /// The command that words of the plain form spell.
 pub fn plain_command<'a>(words: &'a [String]) -> Option<Command<'a>>
@@ -20,6 +20,10 @@ pub fn plain_command<'a>(words: &'a [String]) -> Option<Command<'a>>
     match command.as_str() {
         "build" => match plain_build(rest) {
             Some(build) => Some(Command::Build(build)),
+            None => None,
+        },
+        "dump" => match plain_dump(rest) {
+            Some(dump) => Some(Command::Dump(dump)),
             None => None,
         },
         _ => None,
@@ -46,5 +50,20 @@ fn plain_build<'a>(rest: &'a [String]) -> Option<Build<'a>>
         unr: unr as u32,
         name,
         file,
+    })
+}
+
+// What the words after `dump` spell: they are one file.
+fn plain_dump<'a>(rest: &'a [String]) -> Option<Dump<'a>>
+    ensures command { Finds (SpellsCommand (codes "dump" ∷ map string_bytes rest.now)) (option_map spelled_dump result) }
+{
+    let [file] = rest else {
+        return None;
+    };
+    if !is_plain(file.as_str()) {
+        return None;
+    }
+    Some(Dump {
+        file: file.as_str(),
     })
 }

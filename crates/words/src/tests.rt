@@ -1,6 +1,6 @@
 // What `clap` reads by itself is what the plain form says.
 use crate::by_clap::read_by_clap;
-use crate::{Build, Command, read_words};
+use crate::{Build, Command, Dump, read_words};
 use std::alloc::{AllocError, Global};
 use std::test::Fail;
 
@@ -10,6 +10,14 @@ fn texts(alloc: Global, words: &[&str]) -> Result<Vec<String>, AllocError> {
         texts.push(String::from_str(alloc, word)?)?;
     }
     Ok(texts)
+}
+
+fn is_dump(command: Option<Command<'_>>, file: &str) -> bool {
+    let Some(Command::Dump(dump)) = command else {
+        return false;
+    };
+    let Dump { file: a } = dump;
+    a == file
 }
 
 fn is_build(command: Option<Command<'_>>, lin: u32, unr: u32, name: &str, file: &str) -> bool {
@@ -55,5 +63,15 @@ fn clap_reads_a_file_called_help(rt: HostRuntime) -> Result<(), Fail> {
     let read = read_by_clap(alloc, &words).map_err(|_| "clap has refused the words")?;
     assert!(rt; is_build(read, 16, 16, "x.wasm", "help"));
     assert!(rt; read_words(alloc, &words)?.is_none());
+    Ok(())
+}
+
+#[test]
+fn clap_reads_a_dump(rt: HostRuntime) -> Result<(), Fail> {
+    let alloc = rt.alloc();
+    let words = texts(alloc, &["dump", "x.wasm"])?;
+    let read = read_by_clap(alloc, &words).map_err(|_| "clap has refused plain words")?;
+    assert!(rt; is_dump(read, "x.wasm"));
+    assert!(rt; is_dump(read_words(alloc, &words)?, "x.wasm"));
     Ok(())
 }
