@@ -3,9 +3,9 @@
 use Rattle.std.proofs.Common.{◌≡◌, ℕ, ◌<◌, ◌^◌, List, [], ◌∷◌, ap, sym, ◌∙◌, arith}
 use Rattle.std.proofs.lemmas.Fmt.{decimal_injective}
 use Rattle.std.specs.Prelude.{codes}
-use Rattle.words.specs.Words.{build, GivesNumber, values_for, OneCommand}
+use Rattle.words.specs.Words.{build, dump, GivesNumber, values_for, OneCommand}
 use Rattle.words.specs.Reading.{settings_of}
-use Rattle.words.proofs.Spelling.{GivesBuild, build_spelled, head_is, no_words}
+use Rattle.words.proofs.Spelling.{GivesBuild, build_spelled, dump_spelled, first_is, head_is, no_words}
 
 one_number : (least greatest default : ℕ) (values : List (List ℕ)) (n m : ℕ) → greatest < 2 ^ 64 → GivesNumber least greatest default values n → GivesNumber least greatest default values m → n ≡ m
 one_number least greatest default [] n m small x y = x ∙ sym y
@@ -24,3 +24,9 @@ pub one_command : OneCommand
 one_command [] a b x y = absurd (no_words a x)
 one_command (word ∷ rest) (build lin unr name file) (build lin' unr' name' file') x y =
     one_build rest lin unr name file lin' unr' name' file' (build_spelled word rest lin unr name file x) (build_spelled word rest lin' unr' name' file' y)
+one_command (word ∷ rest) (build lin unr name file) (dump other) x y =
+    let e : codes "build" ≡ codes "dump" = sym (first_is word rest (build lin unr name file) x) ∙ first_is word rest (dump other) y in absurd cc
+one_command (word ∷ rest) (dump file) (build lin unr name other) x y =
+    let e : codes "dump" ≡ codes "build" = sym (first_is word rest (dump file) x) ∙ first_is word rest (build lin unr name other) y in absurd cc
+one_command (word ∷ rest) (dump file) (dump other) x y =
+    ap dump (head_is file other [] [] (sym (dump_spelled word rest file x).file_is ∙ (dump_spelled word rest other y).file_is))

@@ -68,8 +68,15 @@ fn files<'a>(words: &'a [String]) -> &'a [String]
 pub fn only_file<'a>(words: &'a [String]) -> Option<&'a str>
     ensures { Finds (λ file. files_after (map string_bytes words.now) ≡ file ∷ []) (option_map (λ file. file.now) result) }
 {
-    match files(words) {
-        [file] => Some(file.as_str()),
+    only_word(files(words))
+}
+
+/// The only one of the words. `None` where there is none, or there are more.
+pub fn only_word<'a>(words: &'a [String]) -> Option<&'a str>
+    ensures { Finds (λ word. map string_bytes words.now ≡ word ∷ []) (option_map (λ word. word.now) result) }
+{
+    match words {
+        [word] => Some(word.as_str()),
         _ => None,
     }
 }

@@ -6,7 +6,7 @@ ghost use Rattle.words.specs.Found.{Finds};
 ghost use Rattle.words.specs.Commands.{spelled_command, spelled_build, spelled_dump, HasPages};
 
 use crate::files::{is_plain, is_source};
-use crate::options::{have_flags, name_for, number_for, only_file};
+use crate::options::{have_flags, name_for, number_for, only_file, only_word};
 use crate::{Build, Command, Dump};
 
 /// The command that words of the plain form spell.
@@ -57,13 +57,9 @@ fn plain_build<'a>(rest: &'a [String]) -> Option<Build<'a>>
 fn plain_dump<'a>(rest: &'a [String]) -> Option<Dump<'a>>
     ensures command { Finds (SpellsCommand (codes "dump" ∷ map string_bytes rest.now)) (option_map spelled_dump result) }
 {
-    let [file] = rest else {
-        return None;
-    };
-    if !is_plain(file.as_str()) {
+    let file = only_word(rest)?;
+    if !is_plain(file) {
         return None;
     }
-    Some(Dump {
-        file: file.as_str(),
-    })
+    Some(Dump { file })
 }

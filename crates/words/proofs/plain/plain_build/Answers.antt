@@ -1,6 +1,9 @@
-use Rattle.std.proofs.Common.{◌≡◌, [], ap, true, false, map, string_bytes, sym, ◌∙◌}
-use Rattle.words.proofs.Spelling.{no_build, found_no_build, spells_build, head_is}
+use Rattle.std.proofs.Common.{◌≡◌, [], ◌∷◌, ap, true, false, map, string_bytes, sym, ◌∙◌}
+use Rattle.words.proofs.Spelling.{no_build, found_none, spells_build, head_is}
+use Rattle.std.specs.Prelude.{codes}
 use Rattle.words.specs.Files.{is_source_file}
+use Rattle.words.specs.Commands.{spelled_build}
+use Rattle.words.specs.Words.{SpellsCommand}
 use Rattle.words.proofs.plain.plain_build.Goals as goal
 
 pub returns-then-not-have_flags-clause-command : goal.returns-then-not-have_flags-clause-command
@@ -9,19 +12,19 @@ returns-then-not-have_flags-clause-command c =
 
 pub returns-in_err-file-clause-command : goal.returns-in_err-file-clause-command
 returns-in_err-file-clause-command c =
-    found_no_build (map string_bytes c.args.rest.now) c.from_residual.result c.from_residual.ensures (λ lin unr name file g. c.in_err-file.ensures file g.file_is)
+    found_none (SpellsCommand (codes "build" ∷ map string_bytes c.args.rest.now)) spelled_build c.from_residual.result c.from_residual.ensures (no_build (map string_bytes c.args.rest.now) (λ lin unr name file g. c.in_err-file.ensures file g.file_is))
 
 pub returns-in_err-lin-clause-command : goal.returns-in_err-lin-clause-command
 returns-in_err-lin-clause-command c =
-    found_no_build (map string_bytes c.args.rest.now) c.from_residual-in_err-lin.result c.from_residual-in_err-lin.ensures (λ lin unr name file g. c.in_err-lin.ensures.number lin g.lin_given)
+    found_none (SpellsCommand (codes "build" ∷ map string_bytes c.args.rest.now)) spelled_build c.from_residual-in_err-lin.result c.from_residual-in_err-lin.ensures (no_build (map string_bytes c.args.rest.now) (λ lin unr name file g. c.in_err-lin.ensures.number lin g.lin_given))
 
 pub returns-in_err-unr-clause-command : goal.returns-in_err-unr-clause-command
 returns-in_err-unr-clause-command c =
-    found_no_build (map string_bytes c.args.rest.now) c.from_residual-in_err-unr.result c.from_residual-in_err-unr.ensures (λ lin unr name file g. c.in_err-unr.ensures.number unr g.unr_given)
+    found_none (SpellsCommand (codes "build" ∷ map string_bytes c.args.rest.now)) spelled_build c.from_residual-in_err-unr.result c.from_residual-in_err-unr.ensures (no_build (map string_bytes c.args.rest.now) (λ lin unr name file g. c.in_err-unr.ensures.number unr g.unr_given))
 
 pub returns-in_err-name-clause-command : goal.returns-in_err-name-clause-command
 returns-in_err-name-clause-command c =
-    found_no_build (map string_bytes c.args.rest.now) c.from_residual-in_err-name.result c.from_residual-in_err-name.ensures (λ lin unr name file g. c.in_err-name.ensures name g.name_given)
+    found_none (SpellsCommand (codes "build" ∷ map string_bytes c.args.rest.now)) spelled_build c.from_residual-in_err-name.result c.from_residual-in_err-name.ensures (no_build (map string_bytes c.args.rest.now) (λ lin unr name file g. c.in_err-name.ensures name g.name_given))
 
 pub returns-then-not-is_source-clause-command : goal.returns-then-not-is_source-clause-command
 returns-then-not-is_source-clause-command c =
