@@ -9,5 +9,5 @@ pub returns-in_err-file : goal.returns-in_err-file
 returns-in_err-file c = record {
   command =
       found_none (SpellsCommand (codes "dump" ∷ map string_bytes c.args.rest.now)) spelled_dump c.from_residual.result c.from_residual.ensures
-        (no_dump (map string_bytes c.args.rest.now) (λ file g. c.in_err-file.ensures file g.file_is));
+      (no_dump (map string_bytes c.args.rest.now) (λ file g. c.in_err-file.ensures file g.file_is));
 }
