@@ -1,0 +1,2 @@
+pub mod ContentLengths
+pub mod SameBytes
