@@ -85,7 +85,7 @@ unfolding answer_of
 answer_failed d e is rest = ap (λ (f : Option DecodeError). error_or f (without_rest (rest_of_step d.at d.last d.built d.step (record { at = d.at; end = None; rest = rest })))) is
 
 -- a decoder that has answered none
-answer_whole : (d : Decoder) → d.failed ≡ None → (rest : List ℕ) → answer_of d rest ≡ without_rest (rest_of_step d.at d.last d.built d.step (record { at = d.at; end = None; rest = rest }))
+pub answer_whole : (d : Decoder) → d.failed ≡ None → (rest : List ℕ) → answer_of d rest ≡ without_rest (rest_of_step d.at d.last d.built d.step (record { at = d.at; end = None; rest = rest }))
 unfolding answer_of
 answer_whole d is rest = ap (λ (f : Option DecodeError). error_or f (without_rest (rest_of_step d.at d.last d.built d.step (record { at = d.at; end = None; rest = rest })))) is
 

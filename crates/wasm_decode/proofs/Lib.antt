@@ -4,3 +4,4 @@ pub mod HungryContents
 pub mod CodeSteps
 pub mod Decoding
 pub mod WholeInputs
+pub mod Continuations

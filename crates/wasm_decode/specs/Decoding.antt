@@ -1,8 +1,9 @@
 -- A decoder in the middle, and what it answers where its input goes on in this way; this project's own.
-use Rattle.std.specs.Prelude.{ℕ, List, Option, None, Some, Result, Err}
+use Rattle.std.specs.Prelude.{◌≡◌, ℕ, ◌++◌, List, Option, None, Some, Result, Err}
 use Rattle.wasm_ast.specs.declared.modules.WModule.{WModule}
 use Rattle.wasm_reading.specs.declared.fault.DecodeError.{DecodeError}
-use Rattle.wasm_reading.specs.ReadModules.{without_rest}
+use Rattle.wasm_reading.specs.ReadModules.{reading_of, without_rest}
+use Rattle.wasm_reading_laws.specs.ModulesRead.{HasFirstFault}
 use Rattle.wasm_decode.specs.declared.decoder.Decoder.{Decoder}
 use Rattle.wasm_decode.specs.Steps.{rest_of_step, custom_bytes}
 
@@ -30,3 +31,11 @@ error_or (Some e) answer = Err e
 -- the answer to an input that goes on by these bytes and then ends
 unfoldable pub answer_of : Decoder → List ℕ → Result WModule DecodeError
 answer_of d rest = error_or d.failed (without_rest (rest_of_step d.at d.last d.built d.step (record { at = d.at; end = None; rest = rest })))
+
+-- a decoder stands behind the input `fed`: it answers what reading gives of that input and what follows
+abbrev pub Resumes : Decoder → List ℕ → Type 0
+Resumes d fed = (rest : List ℕ) → answer_of d rest ≡ reading_of (fed ++ rest)
+
+-- every input that begins with the bytes `fed`, that of no further byte among them, has this first fault
+abbrev pub IsSettled : List ℕ → DecodeError → Type 0
+IsSettled fed e = (rest : List ℕ) → HasFirstFault (fed ++ rest) e

@@ -2,8 +2,12 @@
 ghost use Rattle.std.specs.Prelude.{◌≡◌, ◌+◌, ◌<◌, ◌≤◌, ◌^◌, [], length};
 ghost use Rattle.wasm_ast.specs.declared.modules.WModule.{WModule};
 ghost use Rattle.wasm_reading.specs.ReadModules.{content_at};
-ghost use Rattle.wasm_decode.specs.Contents.{rest_of_content, rest_of_types, rest_of_imports, rest_of_funcs, rest_of_tables, rest_of_memories, rest_of_globals, rest_of_exports, rest_of_elements, rest_of_segments, rest_of_start, rest_of_count, rest_of_codes, more_codes, rest_behind_codes, StartsAs, PushesInto, PushesBefore};
+ghost use Rattle.wasm_decode.specs.Contents.{rest_of_content, rest_of_start, rest_of_count, rest_of_codes, more_codes, rest_behind_codes, StartsAs, PushesInto, PushesBefore};
 
+use crate::entries::{
+    push_elements, push_exports, push_funcs, push_globals, push_imports, push_memories,
+    push_segments, push_tables, push_types,
+};
 use std::alloc::Global;
 use wasm_ast::{Code, List, WModule};
 use wasm_codes::CodeState;
@@ -101,168 +105,6 @@ impl Content {
                 code,
                 behind,
             } => push_codes(alloc, before, code, behind, module, byte, at),
-        }
-    }
-}
-
-fn push_types(
-    types: VectorState<FuncTypeState>,
-    module: &mut WModule,
-    byte: u8,
-    at: u64,
-) -> Result<Option<Content>, DecodeError>
-    requires { at + 1 < 2 ^ 64 }
-    ensures { PushesInto (rest_of_types «module».old types) byte at «module».new result }
-{
-    match types.push(byte, at)? {
-        Progress::More(types) => Ok(Some(Content::Types(types))),
-        Progress::Done(types) => {
-            module.types = types;
-            Ok(None)
-        }
-    }
-}
-
-fn push_imports(
-    imports: VectorState<ImportState>,
-    module: &mut WModule,
-    byte: u8,
-    at: u64,
-) -> Result<Option<Content>, DecodeError>
-    requires { at + 1 < 2 ^ 64 }
-    ensures { PushesInto (rest_of_imports «module».old imports) byte at «module».new result }
-{
-    match imports.push(byte, at)? {
-        Progress::More(imports) => Ok(Some(Content::Imports(imports))),
-        Progress::Done(imports) => {
-            module.imports = imports;
-            Ok(None)
-        }
-    }
-}
-
-fn push_funcs(
-    funcs: VectorState<Leb32>,
-    module: &mut WModule,
-    byte: u8,
-    at: u64,
-) -> Result<Option<Content>, DecodeError>
-    requires { at + 1 < 2 ^ 64 }
-    ensures { PushesInto (rest_of_funcs «module».old funcs) byte at «module».new result }
-{
-    match funcs.push(byte, at)? {
-        Progress::More(funcs) => Ok(Some(Content::Funcs(funcs))),
-        Progress::Done(funcs) => {
-            module.funcs = funcs;
-            Ok(None)
-        }
-    }
-}
-
-fn push_tables(
-    tables: VectorState<TableState>,
-    module: &mut WModule,
-    byte: u8,
-    at: u64,
-) -> Result<Option<Content>, DecodeError>
-    requires { at + 1 < 2 ^ 64 }
-    ensures { PushesInto (rest_of_tables «module».old tables) byte at «module».new result }
-{
-    match tables.push(byte, at)? {
-        Progress::More(tables) => Ok(Some(Content::Tables(tables))),
-        Progress::Done(tables) => {
-            module.tables = tables;
-            Ok(None)
-        }
-    }
-}
-
-fn push_memories(
-    memories: VectorState<MemoryState>,
-    module: &mut WModule,
-    byte: u8,
-    at: u64,
-) -> Result<Option<Content>, DecodeError>
-    requires { at + 1 < 2 ^ 64 }
-    ensures { PushesInto (rest_of_memories «module».old memories) byte at «module».new result }
-{
-    match memories.push(byte, at)? {
-        Progress::More(memories) => Ok(Some(Content::Memories(memories))),
-        Progress::Done(memories) => {
-            module.memories = memories;
-            Ok(None)
-        }
-    }
-}
-
-fn push_globals(
-    globals: VectorState<GlobalState>,
-    module: &mut WModule,
-    byte: u8,
-    at: u64,
-) -> Result<Option<Content>, DecodeError>
-    requires { at + 1 < 2 ^ 64 }
-    ensures { PushesInto (rest_of_globals «module».old globals) byte at «module».new result }
-{
-    match globals.push(byte, at)? {
-        Progress::More(globals) => Ok(Some(Content::Globals(globals))),
-        Progress::Done(globals) => {
-            module.globals = globals;
-            Ok(None)
-        }
-    }
-}
-
-fn push_exports(
-    exports: VectorState<ExportState>,
-    module: &mut WModule,
-    byte: u8,
-    at: u64,
-) -> Result<Option<Content>, DecodeError>
-    requires { at + 1 < 2 ^ 64 }
-    ensures { PushesInto (rest_of_exports «module».old exports) byte at «module».new result }
-{
-    match exports.push(byte, at)? {
-        Progress::More(exports) => Ok(Some(Content::Exports(exports))),
-        Progress::Done(exports) => {
-            module.exports = exports;
-            Ok(None)
-        }
-    }
-}
-
-fn push_elements(
-    elements: VectorState<ElementState>,
-    module: &mut WModule,
-    byte: u8,
-    at: u64,
-) -> Result<Option<Content>, DecodeError>
-    requires { at + 1 < 2 ^ 64 }
-    ensures { PushesInto (rest_of_elements «module».old elements) byte at «module».new result }
-{
-    match elements.push(byte, at)? {
-        Progress::More(elements) => Ok(Some(Content::Elements(elements))),
-        Progress::Done(elements) => {
-            module.elements = elements;
-            Ok(None)
-        }
-    }
-}
-
-fn push_segments(
-    segments: VectorState<SegmentState>,
-    module: &mut WModule,
-    byte: u8,
-    at: u64,
-) -> Result<Option<Content>, DecodeError>
-    requires { at + 1 < 2 ^ 64 }
-    ensures { PushesInto (rest_of_segments «module».old segments) byte at «module».new result }
-{
-    match segments.push(byte, at)? {
-        Progress::More(segments) => Ok(Some(Content::Segments(segments))),
-        Progress::Done(segments) => {
-            module.segments = segments;
-            Ok(None)
         }
     }
 }

@@ -23,11 +23,11 @@ pub struct Decoder {
 }
 
 impl Decoder {
-    ghost use Rattle.wasm_decode.specs.Decoding.{answer_of, at_of, built_of, custom_left_of, error_of};
+    ghost use Rattle.wasm_decode.specs.Decoding.{answer_of, at_of, built_of, custom_left_of, error_of, IsSettled, Resumes};
 
     /// A decoder of which nothing was fed.
     pub fn new(alloc: Global) -> Decoder
-        ensures starts { (bytes : List ℕ) → answer_of result bytes ≡ reading_of bytes }
+        ensures starts { Resumes result [] }
         ensures whole { error_of result ≡ None }
     {
         Decoder {
@@ -52,15 +52,18 @@ impl Decoder {
         }
     }
 
-    /// Takes the next piece of the input. After an error every later call answers that error. A piece that lies in the
-    /// content of a custom section takes no memory and has no fault. `Memory` comes also where the input has 2^64 - 1
-    /// bytes or more.
+    /// Takes the next piece of the input. A fault is answered as soon as every input that begins with the bytes so far has
+    /// it, and after an error every later call answers that error. A piece that lies in the content of a custom section
+    /// takes no memory and has no fault. `Memory` comes also where the input has 2^64 bytes or more.
     pub fn feed(&mut self, piece: &[u8]) -> Result<(), DecodeError>
         ensures ok { OnOk result ((rest : List ℕ) → answer_of self.new rest ≡ answer_of self.old (piece.now ++ rest)) }
         ensures err { IfErr result (λ e. (e ≡ no_memory) ⊎ ((rest : List ℕ) → answer_of self.old (piece.now ++ rest) ≡ Err e)) }
+        ensures resumes { OnOk result ((fed : List ℕ) → Resumes self.old fed → Resumes self.new (fed ++ piece.now)) }
+        ensures settled { IfErr result (λ e. (fed : List ℕ) → Resumes self.old fed → (e ≡ no_memory) ⊎ IsSettled (fed ++ piece.now) e) }
+        ensures undecided { OnOk result ((fed : List ℕ) → Resumes self.old fed → (e : DecodeError) → IsSettled (fed ++ piece.now) e → ⊥) }
         ensures kept { IfErr result (λ e. error_of self.new ≡ Some e) }
         ensures again { (e : DecodeError) → error_of self.old ≡ Some e → result ≡ Err e }
-        ensures custom { error_of self.old ≡ None → length piece.now ≤ custom_left_of self.old → at_of self.old + length piece.now < 2 ^ 64 - 1 → IsOk result }
+        ensures custom { error_of self.old ≡ None → length piece.now ≤ custom_left_of self.old → at_of self.old + length piece.now < 2 ^ 64 → IsOk result }
     {
         match self.failed {
             Some(e) => Err(e),
@@ -72,9 +75,10 @@ impl Decoder {
     fn take(&mut self, piece: &[u8]) -> Result<(), DecodeError>
         requires { error_of self.old ≡ None }
         ensures ok { OnOk result ((rest : List ℕ) → answer_of self.new rest ≡ answer_of self.old (piece.now ++ rest)) }
+        ensures whole { OnOk result (error_of self.new ≡ None) }
         ensures err { IfErr result (λ e. (e ≡ no_memory) ⊎ ((rest : List ℕ) → answer_of self.old (piece.now ++ rest) ≡ Err e)) }
         ensures kept { IfErr result (λ e. error_of self.new ≡ Some e) }
-        ensures custom { length piece.now ≤ custom_left_of self.old → at_of self.old + length piece.now < 2 ^ 64 - 1 → IsOk result }
+        ensures custom { length piece.now ≤ custom_left_of self.old → at_of self.old + length piece.now < 2 ^ 64 → IsOk result }
     {
         for byte in piece {
             self.push(*byte)?;
@@ -90,10 +94,10 @@ impl Decoder {
         ensures err { IfErr result (λ e. (e ≡ no_memory) ⊎ ((rest : List ℕ) → answer_of self.old (byte ∷ rest) ≡ Err e)) }
         ensures kept { IfErr result (λ e. error_of self.new ≡ Some e) }
         ensures counted { OnOk result (at_of self.new ≡ at_of self.old + 1) }
-        ensures custom { 0 < custom_left_of self.old → at_of self.old + 1 < 2 ^ 64 - 1 → IsOk result }
+        ensures custom { 0 < custom_left_of self.old → at_of self.old + 1 < 2 ^ 64 → IsOk result }
         ensures left { OnOk result (0 < custom_left_of self.old → custom_left_of self.new ≡ custom_left_of self.old - 1) }
     {
-        if self.at >= u64::MAX - 1 {
+        if self.at == u64::MAX {
             return self.fail(DecodeError {
                 at: 0,
                 fault: DecodeFault::Memory,

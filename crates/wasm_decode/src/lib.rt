@@ -4,6 +4,7 @@
 mod content;
 mod decoded;
 mod decoder;
+mod entries;
 mod steps;
 mod whole;
 

@@ -1,11 +1,11 @@
--- No reader faults for want of memory, or past the end of its input: how readers are put together keeps that. An input
--- stands in `total` bytes where so many are read and follow.
-use Rattle.std.proofs.Common.{◌≡◌, ◌∙◌, ℕ, zero, suc, ◌+◌, ◌-◌, ◌*◌, ◌/◌, ◌^◌, ◌≤◌, Bool, true, false, List, [], ◌∷◌, length, refl, arith, Option, None, Some, Result, Ok, Err}
+-- No reader faults for want of memory, or past the end of its input, and one that faults for want of a byte does so at
+-- that end: how readers are put together keeps that. An input stands in `total` bytes where so many are read and follow.
+use Rattle.std.proofs.Common.{◌≡◌, ◌∙◌, ℕ, zero, suc, ◌+◌, ◌-◌, ◌*◌, ◌/◌, ◌^◌, ◌≤◌, Bool, true, false, List, [], ◌∷◌, length, refl, sym, ap, subst, arith, Option, None, Some, Result, Ok, Err}
 use Rattle.std.specs.Prelude.{◌≢◌, ◌==◌, nat_lt, if◌then◌else◌}
 use Rattle.std.specs.Str.{is_utf8}
 use Rattle.wasm_reading.specs.declared.fault.DecodeError.{DecodeError}
 use Rattle.wasm_reading.specs.declared.fault.DecodeFault.{DecodeFault}
-use Rattle.wasm_reading.specs.declared.fault.DecodeFault.TheVariants.{BadLeb, BadTag, BadLength, BadUtf8, Memory}
+use Rattle.wasm_reading.specs.declared.fault.DecodeFault.TheVariants.{Truncated, BadLeb, BadTag, BadLength, BadUtf8, Memory}
 use Rattle.wasm_reading.specs.Readers.{Input, Reader, and_then, ◌>>=◌, give, fail, here, is_at_end, first_byte, byte_at, each_at, ended, within, lesser_end}
 use Rattle.wasm_reading.specs.ReadValues.{unsigned_end, signed_end, number_or, number_at, u32_at, s32_at, s64_at, tagged, tag_at, only, vector_at, name_at, sized_at}
 
@@ -13,30 +13,46 @@ use Rattle.wasm_reading.specs.ReadValues.{unsigned_end, signed_end, number_or, n
 abbrev pub StandsIn : ℕ → Input → Type 0
 StandsIn total input = input.at + length input.rest ≡ total
 
--- a fault that is none of memory
-abbrev pub IsListed : DecodeFault → Type 0
-IsListed fault = fault ≢ Memory
+-- a fault of bytes that were read: neither want of a byte nor of memory
+abbrev is_of_bytes : DecodeFault → Bool
+is_of_bytes Truncated = false
+is_of_bytes Memory = false
+is_of_bytes _ = true
+
+abbrev pub IsOfBytes : DecodeFault → Type 0
+IsOfBytes fault = is_of_bytes fault ≡ true
+
+-- a fault that is none of memory, in so many bytes, and at their end where a byte is wanting
+abbrev pub IsPlaced : ℕ → DecodeError → Type 0
+IsPlaced total e = (e.fault ≢ Memory) × (e.at ≤ total) × (e.fault ≡ Truncated → e.at ≡ total)
 
 -- an answer: the input behind it stands in as many bytes, or a fault and its place
 abbrev pub IsInBounds : {A : Type 0} → ℕ → Result (A × Input) DecodeError → Type 0
 IsInBounds total (Ok done) = StandsIn total done.1
-IsInBounds total (Err e) = IsListed e.fault × (e.at ≤ total)
+IsInBounds total (Err e) = IsPlaced total e
+
+not_of_bytes : (fault other : DecodeFault) → IsOfBytes fault → is_of_bytes other ≡ false → fault ≡ other → ⊥
+not_of_bytes fault other h k e = let both : true ≡ false = sym h ∙ ap is_of_bytes e ∙ k in absurd (cc)
+
+-- a fault of bytes that were read, at a place that was reached
+pub placed : (total : ℕ) (fault : DecodeFault) (place : ℕ) → IsOfBytes fault → place ≤ total → IsPlaced total (record { at = place; fault = fault })
+placed total fault place h p = (not_of_bytes fault Memory h refl, p, λ e. absurd (not_of_bytes fault Truncated h refl e))
 
 pub record InBounds (total : ℕ) {A : Type 0} (read : Reader A) : Type 0 where
   pub holds : (input : Input) → StandsIn total input → IsInBounds total (read input)
 
--- a value of a byte, or a fault that is none of memory
+-- a value of a byte, or a fault of it
 pub record IsKnown {A : Type 0} (r : Result A DecodeFault) : Type 0 where
-  pub listed : (fault : DecodeFault) → r ≡ Err fault → IsListed fault
+  pub fault_of_bytes : (fault : DecodeFault) → r ≡ Err fault → IsOfBytes fault
 
 pub known_value : {A : Type 0} (value : A) → IsKnown (Ok value)
-known_value value = record { listed = λ fault e. absurd (cc) }
+known_value value = record { fault_of_bytes = λ fault e. absurd (cc) }
 
-pub known_fault : {A : Type 0} (fault : DecodeFault) → IsListed fault → IsKnown {A = A} (Err fault)
-known_fault fault l = record {
-  listed = λ other e f.
+pub known_fault : {A : Type 0} (fault : DecodeFault) → IsOfBytes fault → IsKnown {A = A} (Err fault)
+known_fault fault h = record {
+  fault_of_bytes = λ other e.
       let same : fault ≡ other = cc in
-      l (same ∙ f);
+      subst IsOfBytes same h;
 }
 
 pub known_if : {A : Type 0} (t : Bool) {x y : Result A DecodeFault} → IsKnown x → IsKnown y → IsKnown (if t then x else y)
@@ -47,8 +63,8 @@ module _ {total : ℕ} where
   pub bounds_give : {A : Type 0} (a : A) → InBounds total (give a)
   bounds_give a = record { holds = λ input h. h }
 
-  pub bounds_fail : {A : Type 0} (fault : DecodeFault) (place : ℕ) → IsListed fault → place ≤ total → InBounds total (fail {A = A} fault place)
-  bounds_fail fault place l p = record { holds = λ input h. (l, p) }
+  pub bounds_fail : {A : Type 0} (fault : DecodeFault) (place : ℕ) → IsOfBytes fault → place ≤ total → InBounds total (fail {A = A} fault place)
+  bounds_fail fault place b p = record { holds = λ input h. placed total fault place b p }
 
   and_then_bounds : {A B : Type 0} (r : Result (A × Input) DecodeError) (next : A → Reader B) → IsInBounds total r → ((a : A) → InBounds total (next a)) → IsInBounds total (and_then r next)
   and_then_bounds (Ok done) next h k = (k done.0).holds done.1 h
@@ -66,11 +82,11 @@ module _ {total : ℕ} where
   bounds_if false h k = k
 
   first_bounds : (at : ℕ) (end : Option ℕ) (rest : List ℕ) → at + length rest ≡ total → IsInBounds total (first_byte at end rest)
-  first_bounds at end [] h = ((λ e. cc), omega arith)
+  first_bounds at end [] h = ((λ e. cc), omega arith, λ e. omega arith)
   first_bounds at end (b ∷ rest) h = omega arith
 
   byte_bounds : (t : Bool) (input : Input) → StandsIn total input → IsInBounds total (if t then Err (record { at = input.at; fault = BadLength }) else first_byte input.at input.end input.rest)
-  byte_bounds true input h = ((λ e. cc), omega arith)
+  byte_bounds true input h = placed total BadLength input.at refl (omega arith)
   byte_bounds false input h = first_bounds input.at input.end input.rest h
 
   pub bounds_byte : InBounds total byte_at
@@ -81,15 +97,15 @@ module _ {total : ℕ} where
   bounds_each h (suc n) = bounds_then h (λ x. bounds_then (bounds_each h n) (λ xs. bounds_give _))
 
   bounds_number_or : (place : ℕ) (n : Option ℕ) → place ≤ total → InBounds total (number_or place n)
-  bounds_number_or place None h = bounds_fail BadLeb place (λ e. cc) h
+  bounds_number_or place None h = bounds_fail BadLeb place refl h
   bounds_number_or place (Some n) h = bounds_give n
 
   bounds_number : (end_of : ℕ → ℕ → Option ℕ) (most limit : ℕ) → InBounds total (number_at end_of most limit)
-  bounds_number end_of zero limit = record { holds = λ input h. ((λ e. cc), omega arith) }
+  bounds_number end_of zero limit = record { holds = λ input h. placed total BadLeb input.at refl (omega arith) }
   bounds_number end_of (suc most) limit =
       bounds_here (λ place h. bounds_then bounds_byte (λ b.
       bounds_if (nat_lt b 128) (bounds_number_or place (end_of limit b) h)
-      (bounds_if (nat_lt 128 limit) (bounds_then (bounds_number end_of most (limit / 128)) (λ m. bounds_give (b - 128 + 128 * m))) (bounds_fail BadLeb place (λ e. cc) h))))
+      (bounds_if (nat_lt 128 limit) (bounds_then (bounds_number end_of most (limit / 128)) (λ m. bounds_give (b - 128 + 128 * m))) (bounds_fail BadLeb place refl h))))
 
   pub bounds_u32 : InBounds total u32_at
   bounds_u32 = bounds_number unsigned_end 5 (2 ^ 32)
@@ -102,13 +118,13 @@ module _ {total : ℕ} where
 
   bounds_tagged : {A : Type 0} (place : ℕ) (r : Result A DecodeFault) → IsKnown r → place ≤ total → InBounds total (tagged place r)
   bounds_tagged place (Ok v) k h = bounds_give v
-  bounds_tagged place (Err fault) k h = bounds_fail fault place (k.listed fault refl) h
+  bounds_tagged place (Err fault) k h = bounds_fail fault place (k.fault_of_bytes fault refl) h
 
   pub bounds_tag : {A : Type 0} (of : ℕ → Result A DecodeFault) → ((b : ℕ) → IsKnown (of b)) → InBounds total (tag_at of)
   bounds_tag of k = bounds_here (λ place h. bounds_then bounds_byte (λ b. bounds_tagged place (of b) (k b) h))
 
   pub bounds_only : (wanted : ℕ) → InBounds total (tag_at (only wanted))
-  bounds_only wanted = bounds_tag (only wanted) (λ b. known_if (b == wanted) (known_value tt) (known_fault BadTag (λ e. cc)))
+  bounds_only wanted = bounds_tag (only wanted) (λ b. known_if (b == wanted) (known_value tt) (known_fault BadTag refl))
 
   pub bounds_vector : {A : Type 0} {item : Reader A} → InBounds total item → InBounds total (vector_at item)
   bounds_vector h = bounds_then bounds_u32 (λ n. bounds_each h n)
@@ -116,11 +132,11 @@ module _ {total : ℕ} where
   pub bounds_name : InBounds total name_at
   bounds_name =
       bounds_then bounds_u32 (λ n. bounds_here (λ place h. bounds_then (bounds_each bounds_byte n) (λ bytes.
-      bounds_if (is_utf8 bytes) (bounds_give bytes) (bounds_fail BadUtf8 place (λ e. cc) h))))
+      bounds_if (is_utf8 bytes) (bounds_give bytes) (bounds_fail BadUtf8 place refl h))))
 
   ended_bounds : {A : Type 0} (t : Bool) (end : Option ℕ) (value : A) (input : Input) → StandsIn total input → IsInBounds {A = A} total (if t then Ok (value, record { at = input.at; end = end; rest = input.rest }) else Err (record { at = input.at; fault = BadLength }))
   ended_bounds true end value input h = h
-  ended_bounds false end value input h = ((λ e. cc), omega arith)
+  ended_bounds false end value input h = placed total BadLength input.at refl (omega arith)
 
   pub bounds_within : {A : Type 0} (stop : ℕ) {content : Reader A} → InBounds total content → InBounds total (within stop content)
   bounds_within stop {content} h = record {

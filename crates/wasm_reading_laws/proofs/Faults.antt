@@ -1,5 +1,5 @@
 -- Bytes spell a module or have a first fault, by what reading them gives; and where that fault can be.
-use Rattle.std.proofs.Common.{◌≡◌, ◌∙◌, ℕ, ◌≤◌, List, length, refl, ap, arith, inl, inr, None, Result, Ok, Err}
+use Rattle.std.proofs.Common.{◌≡◌, ℕ, List, [], ◌∷◌, ◌++◌, length, length-append, refl, subst, arith, inl, inr, None, Result, Ok, Err}
 use Rattle.std.specs.Prelude.{◌⊎◌}
 use Rattle.wasm_ast.specs.declared.modules.WModule.{WModule}
 use Rattle.wasm_grammar.specs.CanonicalModules.{preamble}
@@ -7,9 +7,9 @@ use Rattle.wasm_grammar.specs.GrammarModules.{SpellsModule}
 use Rattle.wasm_reading.specs.declared.fault.DecodeError.{DecodeError}
 use Rattle.wasm_reading.specs.Readers.{Input}
 use Rattle.wasm_reading.specs.ReadModules.{module_at, empty_module, reading_of, without_rest}
-use Rattle.wasm_reading_laws.specs.ModulesRead.{HasFirstFault, ModuleOrFault, NeverBoth, OneFirstFault, NeverOfMemory, FaultIsInBytes}
+use Rattle.wasm_reading_laws.specs.ModulesRead.{HasFirstFault, ModuleOrFault, NeverBoth, OneFirstFault, NeverOfMemory, FaultIsInBytes, TruncatedAtTheEnd, TruncatedIsUndecided}
 use Rattle.wasm_reading_laws.proofs.Modules.{read_is_spelled, spelled_is_read}
-use Rattle.wasm_reading_laws.proofs.FaultBounds.{IsListed, IsInBounds, InBounds, bounds_then}
+use Rattle.wasm_reading_laws.proofs.FaultBounds.{IsPlaced, IsInBounds, InBounds, bounds_then}
 use Rattle.wasm_reading_laws.proofs.FaultsOfEntries.{bounds_sections, bounds_preamble}
 
 read_or_fault : (r : Result WModule DecodeError) → ((m : WModule) × (r ≡ Ok m)) ⊎ ((e : DecodeError) × (r ≡ Err e))
@@ -38,13 +38,13 @@ one_first_fault bytes e e' f g = one_fault (reading_of bytes) e e' f g
 bounds_module : (total : ℕ) → InBounds total module_at
 bounds_module total = bounds_then (bounds_preamble 0 preamble) (λ _. record { holds = λ input s. (bounds_sections (length input.rest) 0 empty_module).holds input s })
 
-fault_in : (total : ℕ) (r : Result (WModule × Input) DecodeError) (e : DecodeError) → IsInBounds total r → without_rest r ≡ Err e → IsListed e.fault × (e.at ≤ total)
+fault_in : (total : ℕ) (r : Result (WModule × Input) DecodeError) (e : DecodeError) → IsInBounds total r → without_rest r ≡ Err e → IsPlaced total e
 fault_in total (Ok done) e h f = absurd (cc)
 fault_in total (Err fault) e h f =
     let same : fault ≡ e = cc in
-    (λ g. h.0 (ap (λ (d : DecodeError). d.fault) same ∙ g), omega (arith, h.1, ap (λ (d : DecodeError). d.at) same))
+    subst (IsPlaced total) same h
 
-first_fault_in : (bytes : List ℕ) (e : DecodeError) → HasFirstFault bytes e → IsListed e.fault × (e.at ≤ length bytes)
+first_fault_in : (bytes : List ℕ) (e : DecodeError) → HasFirstFault bytes e → IsPlaced (length bytes) e
 first_fault_in bytes e f =
     let input : Input = record { at = 0; end = None; rest = bytes } in
     fault_in (length bytes) (module_at input) e ((bounds_module (length bytes)).holds input (omega arith)) f
@@ -54,3 +54,12 @@ never_of_memory bytes e f = (first_fault_in bytes e f).0
 
 pub fault_is_in_bytes : FaultIsInBytes
 fault_is_in_bytes bytes e f = (first_fault_in bytes e f).1
+
+pub truncated_at_the_end : TruncatedAtTheEnd
+truncated_at_the_end bytes e f t = (first_fault_in bytes e f).2 t
+
+pub truncated_is_undecided : TruncatedIsUndecided
+truncated_is_undecided bytes e f t b more =
+    let here = truncated_at_the_end bytes e f t in
+    let later = truncated_at_the_end (bytes ++ b ∷ []) e more t in
+    omega (arith, here, later, length-append bytes (b ∷ []))

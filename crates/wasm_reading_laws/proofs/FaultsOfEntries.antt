@@ -1,5 +1,6 @@
--- No reader of types, instructions, entries and sections faults for want of memory, or past the end of its input.
-use Rattle.std.proofs.Common.{ℕ, zero, suc, ◌+◌, ◌≤◌, Bool, true, false, List, [], ◌∷◌, length, Option, None, Some, Result}
+-- No reader of types, instructions, entries and sections faults for want of memory, or past the end of its input, or for
+-- want of a byte before that end.
+use Rattle.std.proofs.Common.{ℕ, zero, suc, ◌+◌, ◌≤◌, Bool, true, false, List, [], ◌∷◌, length, refl, Option, None, Some, Result}
 use Rattle.std.specs.Prelude.{◌==◌, ◌||◌, nat_lt, nat_le, if◌then◌else◌}
 use Rattle.wasm_ast.specs.declared.types.ValTy.{ValTy}
 use Rattle.wasm_ast.specs.declared.types.ValTy.TheVariants.{I32, I64}
@@ -22,29 +23,29 @@ use Rattle.wasm_reading.specs.ReadTypes.{value_type_of, block_type_of, flag_of, 
 use Rattle.wasm_reading.specs.ReadInstructions.{is_from_to, is_float_opcode, opcode_fault, immediate_at, made, plain_at, nested_at, other_arm_at, if_at, instruction_from, listed_from, instructions_at, expression_at, constant_at, constant_kind_of, kind_of, Listed}
 use Rattle.wasm_reading.specs.ReadValues.{tag_at, vector_at}
 use Rattle.wasm_reading.specs.ReadModules.{import_kind_at, external_kind_of, import_at, global_at, export_at, element_at, segment_at, local_runs_at, code_at, codes_at, content_at, custom_at, module_at_end, is_empty, section_from, sections_at, preamble_at}
-use Rattle.wasm_reading_laws.proofs.FaultBounds.{IsListed, IsInBounds, InBounds, IsKnown, known_value, known_fault, known_if, bounds_give, bounds_fail, bounds_then, bounds_here, bounds_if, bounds_byte, bounds_each, bounds_u32, bounds_s32, bounds_s64, bounds_tag, bounds_only, bounds_vector, bounds_name, bounds_sized}
+use Rattle.wasm_reading_laws.proofs.FaultBounds.{IsOfBytes, IsInBounds, InBounds, IsKnown, known_value, known_fault, known_if, bounds_give, bounds_fail, bounds_then, bounds_here, bounds_if, bounds_byte, bounds_each, bounds_u32, bounds_s32, bounds_s64, bounds_tag, bounds_only, bounds_vector, bounds_name, bounds_sized}
 
 value_type_known : (b : ℕ) → IsKnown (value_type_of b)
 value_type_known b =
     known_if (b == 0x7F) (known_value I32) (known_if (b == 0x7E) (known_value I64)
-    (known_if ((b == 0x7D) || (b == 0x7C)) (known_fault FloatOutside (λ e. cc)) (known_fault BadTag (λ e. cc))))
+    (known_if ((b == 0x7D) || (b == 0x7C)) (known_fault FloatOutside refl) (known_fault BadTag refl)))
 
 block_type_known : (b : ℕ) → IsKnown (block_type_of b)
 block_type_known b =
     known_if (b == 0x40) (known_value None) (known_if (b == 0x7F) (known_value (Some I32)) (known_if (b == 0x7E) (known_value (Some I64))
-    (known_if ((b == 0x7D) || (b == 0x7C)) (known_fault FloatOutside (λ e. cc)) (known_fault BadTag (λ e. cc)))))
+    (known_if ((b == 0x7D) || (b == 0x7C)) (known_fault FloatOutside refl) (known_fault BadTag refl))))
 
 flag_known : (b : ℕ) → IsKnown (flag_of b)
-flag_known b = known_if (b == 0x00) (known_value false) (known_if (b == 0x01) (known_value true) (known_fault BadTag (λ e. cc)))
+flag_known b = known_if (b == 0x00) (known_value false) (known_if (b == 0x01) (known_value true) (known_fault BadTag refl))
 
 external_kind_known : (b : ℕ) → IsKnown (external_kind_of b)
 external_kind_known b =
     known_if (b == 0x00) (known_value externals.Func) (known_if (b == 0x01) (known_value externals.Table)
-    (known_if (b == 0x02) (known_value externals.Memory) (known_if (b == 0x03) (known_value externals.Global) (known_fault BadTag (λ e. cc)))))
+    (known_if (b == 0x02) (known_value externals.Memory) (known_if (b == 0x03) (known_value externals.Global) (known_fault BadTag refl))))
 
-opcode_listed : (t : Bool) → IsListed (if t then FloatOutside else BadTag)
-opcode_listed true = λ e. cc
-opcode_listed false = λ e. cc
+opcode_fault_of_bytes : (t : Bool) → IsOfBytes (if t then FloatOutside else BadTag)
+opcode_fault_of_bytes true = refl
+opcode_fault_of_bytes false = refl
 
 either_in_bounds : {A : Type 0} (total : ℕ) (t : Bool) (x y : Result (A × Input) DecodeError) → IsInBounds total x → IsInBounds total y → IsInBounds total (if t then x else y)
 either_in_bounds total true x y h k = h
@@ -55,7 +56,7 @@ module _ {total : ℕ} where
   bounds_value_type = bounds_tag value_type_of value_type_known
 
   bounds_at_most : (most : ℕ) → InBounds total (at_most most)
-  bounds_at_most most = bounds_here (λ place h. bounds_then bounds_u32 (λ n. bounds_if (nat_lt most n) (bounds_fail LimitOutside place (λ e. cc) h) (bounds_give n)))
+  bounds_at_most most = bounds_here (λ place h. bounds_then bounds_u32 (λ n. bounds_if (nat_lt most n) (bounds_fail LimitOutside place refl h) (bounds_give n)))
 
   bounds_results : (count : ℕ) → InBounds total (results_at count)
   bounds_results count = bounds_if (count == 0) (bounds_give None) (bounds_then bounds_value_type (λ t. bounds_give _))
@@ -91,11 +92,11 @@ module _ {total : ℕ} where
 
   bounds_made : (place : ℕ) (w : Option (WInstr-F WInstr)) → place ≤ total → InBounds total (made place w)
   bounds_made place (Some w) h = bounds_give _
-  bounds_made place None h = bounds_fail BadTag place (λ e. cc) h
+  bounds_made place None h = bounds_fail BadTag place refl h
 
   bounds_plain : (place opcode : ℕ) (kind : Option ImmediateKind) → place ≤ total → InBounds total (plain_at place opcode kind)
   bounds_plain place opcode (Some kind) h = bounds_then (bounds_immediate kind) (λ immediate. bounds_made place (instruction_at opcode immediate) h)
-  bounds_plain place opcode None h = bounds_fail (opcode_fault opcode) place (opcode_listed (is_float_opcode opcode)) h
+  bounds_plain place opcode None h = bounds_fail (opcode_fault opcode) place (opcode_fault_of_bytes (is_float_opcode opcode)) h
 
   bounds_constant : InBounds total constant_at
   bounds_constant =
@@ -115,17 +116,17 @@ module _ {total : ℕ} where
   module _ {list : Bool → ℕ → Reader Listed} (k : (with_else : Bool) (depth : ℕ) → InBounds total (list with_else depth)) where
     bounds_instruction : (depth place opcode : ℕ) → place ≤ total → InBounds total (instruction_from list depth place opcode)
     bounds_instruction depth place opcode h =
-        bounds_if (is_from_to 0x02 0x04 opcode) (bounds_if (nat_le nesting_limit depth) (bounds_fail LimitOutside place (λ e. cc) h)
+        bounds_if (is_from_to 0x02 0x04 opcode) (bounds_if (nat_le nesting_limit depth) (bounds_fail LimitOutside place refl h)
         (bounds_if (opcode == 0x04) (bounds_if_instruction place h (k true (depth + 1)) (k false (depth + 1))) (bounds_nested place opcode h (k false (depth + 1)))))
         (bounds_plain place opcode (kind_of opcode) h)
 
     bounds_listed : (with_else : Bool) (depth place opcode : ℕ) → place ≤ total → InBounds total (listed_from list with_else depth place opcode)
     bounds_listed with_else depth place opcode h =
-        bounds_if (opcode == 0x0B) (bounds_give ([], false)) (bounds_if (opcode == 0x05) (bounds_if with_else (bounds_give ([], true)) (bounds_fail BadTag place (λ e. cc) h))
+        bounds_if (opcode == 0x0B) (bounds_give ([], false)) (bounds_if (opcode == 0x05) (bounds_if with_else (bounds_give ([], true)) (bounds_fail BadTag place refl h))
         (bounds_then (bounds_instruction depth place opcode h) (λ x. bounds_then (k with_else depth) (λ xs. bounds_give (x ∷ xs.0, xs.1)))))
 
   bounds_instructions : (fuel : ℕ) (with_else : Bool) (depth : ℕ) → InBounds total (instructions_at fuel with_else depth)
-  bounds_instructions zero with_else depth = bounds_here (λ place h. bounds_then bounds_byte (λ _. bounds_fail BadTag place (λ e. cc) h))
+  bounds_instructions zero with_else depth = bounds_here (λ place h. bounds_then bounds_byte (λ _. bounds_fail BadTag place refl h))
   bounds_instructions (suc fuel) with_else depth =
       bounds_here (λ place h. bounds_then bounds_byte (λ opcode. bounds_listed (bounds_instructions fuel) with_else depth place opcode h))
 
@@ -158,14 +159,14 @@ module _ {total : ℕ} where
   bounds_local_runs : (before n : ℕ) → InBounds total (local_runs_at before n)
   bounds_local_runs before zero = bounds_give []
   bounds_local_runs before (suc n) =
-      bounds_here (λ place h. bounds_then bounds_u32 (λ count. bounds_then (bounds_if (nat_lt local_limit (before + count)) (bounds_fail LimitOutside place (λ e. cc) h) bounds_value_type) (λ t.
+      bounds_here (λ place h. bounds_then bounds_u32 (λ count. bounds_then (bounds_if (nat_lt local_limit (before + count)) (bounds_fail LimitOutside place refl h) bounds_value_type) (λ t.
       bounds_then (bounds_local_runs (before + count) n) (λ runs. bounds_give {A = List LocalRun} (record { count = count; ty = t } ∷ runs)))))
 
   bounds_code : InBounds total code_at
   bounds_code = bounds_sized (bounds_then bounds_u32 (λ n. bounds_then (bounds_local_runs 0 n) (λ locals. bounds_then bounds_expression (λ body. bounds_give _))))
 
   bounds_codes : (functions : ℕ) → InBounds total (codes_at functions)
-  bounds_codes functions = bounds_here (λ place h. bounds_then bounds_u32 (λ n. bounds_if (n == functions) (bounds_each bounds_code n) (bounds_fail CountMismatch place (λ e. cc) h)))
+  bounds_codes functions = bounds_here (λ place h. bounds_then bounds_u32 (λ n. bounds_if (n == functions) (bounds_each bounds_code n) (bounds_fail CountMismatch place refl h)))
 
   entries : {A : Type 0} {item : Reader A} (put : List A → WModule) → InBounds total item → InBounds total (do xs ← vector_at item; give (put xs))
   entries put h = bounds_then (bounds_vector h) (λ xs. bounds_give _)
@@ -180,13 +181,13 @@ module _ {total : ℕ} where
   bounds_custom = bounds_then bounds_u32 (λ size. bounds_each bounds_byte size)
 
   bounds_end : (m : WModule) → InBounds total (module_at_end m)
-  bounds_end m = bounds_here (λ place h. bounds_if (length m.codes == length m.funcs) (bounds_give m) (bounds_fail CountMismatch place (λ e. cc) h))
+  bounds_end m = bounds_here (λ place h. bounds_if (length m.codes == length m.funcs) (bounds_give m) (bounds_fail CountMismatch place refl h))
 
   bounds_section : (more : ℕ → WModule → Reader WModule) → ((last : ℕ) (m : WModule) → InBounds total (more last m)) → (last : ℕ) (m : WModule) → InBounds total (section_from more last m)
   bounds_section more k last m =
       bounds_here (λ place h. bounds_then bounds_byte (λ id.
       bounds_if (id == 0) (bounds_then bounds_custom (λ _. k last m))
-      (bounds_if (nat_lt 11 id) (bounds_fail BadTag place (λ e. cc) h) (bounds_if (nat_le id last) (bounds_fail BadOrder place (λ e. cc) h)
+      (bounds_if (nat_lt 11 id) (bounds_fail BadTag place refl h) (bounds_if (nat_le id last) (bounds_fail BadOrder place refl h)
       (bounds_then (bounds_sized (bounds_content id m)) (λ m'. k id m'))))))
 
   pub bounds_sections : (fuel last : ℕ) (m : WModule) → InBounds total (sections_at fuel last m)
@@ -202,4 +203,4 @@ module _ {total : ℕ} where
   bounds_preamble k [] = bounds_give tt
   bounds_preamble k (w ∷ wanted) =
       bounds_here (λ place h. bounds_then bounds_byte (λ b.
-      bounds_if (b == w) (bounds_preamble (k + 1) wanted) (bounds_if (nat_lt k 4) (bounds_fail BadMagic place (λ e. cc) h) (bounds_fail BadVersion place (λ e. cc) h))))
+      bounds_if (b == w) (bounds_preamble (k + 1) wanted) (bounds_if (nat_lt k 4) (bounds_fail BadMagic place refl h) (bounds_fail BadVersion place refl h))))

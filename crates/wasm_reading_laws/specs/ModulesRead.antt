@@ -1,13 +1,13 @@
 -- The reading of a module is the grammar; this project's own. What is read is defined for all lists of numbers, of which
 -- those below 256 are bytes (`AreBytes`).
-use Rattle.std.specs.Prelude.{◌≡◌, ◌≢◌, ℕ, ◌≤◌, List, length, ◌⊎◌, Ok, Err}
+use Rattle.std.specs.Prelude.{◌≡◌, ◌≢◌, ℕ, ◌≤◌, List, [], ◌∷◌, ◌++◌, length, ◌⊎◌, Ok, Err}
 use Rattle.wasm_ast.specs.declared.modules.WModule.{WModule}
 use Rattle.wasm_grammar.specs.CanonicalModules.{module_bytes}
 use Rattle.wasm_grammar.specs.Profile.{IsInProfile}
 use Rattle.wasm_grammar.specs.GrammarModules.{SpellsModule}
 use Rattle.wasm_spelling.specs.SpellingLaws.{HasShortContents}
 use Rattle.wasm_reading.specs.declared.fault.DecodeError.{DecodeError}
-use Rattle.wasm_reading.specs.declared.fault.DecodeFault.TheVariants.{Memory}
+use Rattle.wasm_reading.specs.declared.fault.DecodeFault.TheVariants.{Memory, Truncated}
 use Rattle.wasm_reading.specs.ReadModules.{reading_of}
 use Rattle.wasm_reading_values.specs.Exactness.{AreBytes}
 
@@ -43,6 +43,14 @@ NeverOfMemory = (bytes : List ℕ) (e : DecodeError) → HasFirstFault bytes e �
 -- no more bytes stand before a first fault than there are
 abbrev pub FaultIsInBytes : Type 0
 FaultIsInBytes = (bytes : List ℕ) (e : DecodeError) → HasFirstFault bytes e → e.at ≤ length bytes
+
+-- a first fault for want of a byte stands at the end of the bytes
+abbrev pub TruncatedAtTheEnd : Type 0
+TruncatedAtTheEnd = (bytes : List ℕ) (e : DecodeError) → HasFirstFault bytes e → e.fault ≡ Truncated → e.at ≡ length bytes
+
+-- bytes that have such a fault do not have it at that place once a byte follows, whichever it is
+abbrev pub TruncatedIsUndecided : Type 0
+TruncatedIsUndecided = (bytes : List ℕ) (e : DecodeError) → HasFirstFault bytes e → e.fault ≡ Truncated → (b : ℕ) → HasFirstFault (bytes ++ b ∷ []) e → ⊥
 
 -- the canonical bytes of a module are read as that module
 abbrev pub CanonicalBytesAreRead : Type 0

@@ -1,6 +1,6 @@
 // Laws of reading: the reading of a module is the grammar.
 
-ghost use Rattle.wasm_reading_laws.specs.ModulesRead.{CanonicalBytesAreRead, FaultIsInBytes, ModuleOrFault, NeverBoth, NeverOfMemory, OneFirstFault, ReadIsSpelled, SpelledIsRead};
+ghost use Rattle.wasm_reading_laws.specs.ModulesRead.{CanonicalBytesAreRead, FaultIsInBytes, ModuleOrFault, NeverBoth, NeverOfMemory, OneFirstFault, ReadIsSpelled, SpelledIsRead, TruncatedAtTheEnd, TruncatedIsUndecided};
 ghost use Rattle.wasm_reading_laws.specs.WorkedModulesRead.{FullModuleIsRead, PaddedModuleIsRead};
 
 /// A law: what is read from bytes is the module that they spell, and a module that bytes spell is read from them
@@ -18,6 +18,13 @@ pub fn a_module_or_one_first_fault()
     ensures one { OneFirstFault }
     ensures not_memory { NeverOfMemory }
     ensures place { FaultIsInBytes }
+{}
+
+/// A law: a first fault that is `Truncated` stands at the end of the bytes, so that it is undecided: whichever byte
+/// follows, the bytes do not have that fault at that place any more. This project's own.
+pub fn truncated_only_at_the_end()
+    ensures place { TruncatedAtTheEnd }
+    ensures undecided { TruncatedIsUndecided }
 {}
 
 /// A law: a module of the profile, each of whose sections has a content of fewer than 2^32 bytes, is read from its

@@ -6,5 +6,5 @@ mod laws;
 
 pub use laws::{
     a_module_or_one_first_fault, canonical_bytes_are_read, reading_is_the_grammar,
-    worked_modules_are_read,
+    truncated_only_at_the_end, worked_modules_are_read,
 };
