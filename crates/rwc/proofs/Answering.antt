@@ -1,5 +1,6 @@
 -- What each answer of a call says and leaves, from how it kept to its job.
-use Rattle.std.proofs.Common.{◌≡◌, ◌≢◌, ◌≤◌, ◌<◌, ◌⊎◌, inl, inr, ℕ, ◌-◌, List, [], ◌∷◌, ◌++◌, length, take, drop, refl, ap, sym, ◌∙◌, subst, arith, append_assoc, Ok, Err, None, Some}
+use Rattle.std.proofs.Common.{◌≡◌, ◌≢◌, ◌≤◌, ◌<◌, ◌⊎◌, inl, inr, ℕ, ◌-◌, List, [], ◌∷◌, ◌++◌, length, take, drop, refl, ap, sym, ◌∙◌, subst, arith, append_assoc, lit≤, Ok, Err, None, Some}
+use Rattle.std.specs.Prelude.{codes}
 use Rattle.std.proofs.Math.Seq.{take-append_seam}
 use Rattle.std.proofs.lemmas.List.{append-nil, take-append-drop}
 use Rattle.std.specs.declared.option.Option.{Option}
@@ -16,12 +17,15 @@ use Rattle.rwc.specs.Acts.{Act, create, append, put, Seen, after_act, after_acts
 use Rattle.rwc.specs.Answers.{text_of, PutsText, HasStatus, IsUnloadable, IsRefused}
 use Rattle.rwc.specs.Compiled.{Refused, refused, typed, TextLeads, not_read, spelled}
 use Rattle.rwc.specs.Endings.{Ends, whole, unwritten, no_memory, no_memory_within, Keeps, follows, unread, unbegun}
-use Rattle.rwc.specs.Reports.{Job, max_file_length, ContentLeads, BuildReports, CommandReports, Reports}
-use Rattle.rwc.specs.Stops.{IsRefusal}
+use Rattle.rwc.specs.Jobs.{Job, max_file_length}
+use Rattle.rwc.specs.Reports.{ContentLeads, BuildReports, CommandReports, Reports}
 use Rattle.lowering_table.specs.declared.Pages.{Pages}
-use Rattle.words.specs.Words.{Command, build, SpellsCommand}
+use Rattle.lowering_table.specs.Modules.{ArePages}
+use Rattle.words.specs.Words.{Command, build, dump, SpellsCommand, GivesNumber, values_for, files_of}
+use Rattle.rwc.proofs.Dumping.{dump_status, dump_not_four, dump_unloadable, dump_no_acts}
+use Rattle.words.specs.Found.{Finds}
 use Rattle.rwc.proofs.OneReport.{reports_found}
-use Rattle.rwc.proofs.Building.{content_status, no_refusal, load_status, status_of_err, same_bytes}
+use Rattle.rwc.proofs.Building.{IsUnbuilt, content_status, content_fits, binary_status, load_status, status_of_err, same_bytes}
 
 text_of-append : (xs ys : List Act) → text_of (xs ++ ys) ≡ text_of xs ++ text_of ys
 text_of-append [] ys = refl
@@ -38,7 +42,7 @@ append_known_twice None xs ys = refl
 append_known_twice (Some bytes) xs ys = ap (λ (b : List ℕ). Some b) (append_assoc bytes xs ys)
 
 -- what acts leave on standard output
-out_after : (acts : List Act) (seen : Seen) → (after_acts acts seen).out ≡ append_known seen.out (text_of acts)
+pub out_after : (acts : List Act) (seen : Seen) → (after_acts acts seen).out ≡ append_known seen.out (text_of acts)
 out_after [] seen = append_known_nothing seen.out
 out_after (create name ∷ acts) seen = out_after acts (after_act (create name) seen)
 out_after (append piece ∷ acts) seen = out_after acts (after_act (append piece) seen)
@@ -122,17 +126,24 @@ keeps_text Jobs one job right not_four before after status result line (unread f
 keeps_text Jobs one job right not_four before after status result line (unbegun same eight says) told =
     nothing_put _ _ _ result (ap (λ (s : Seen). s.out) same) (elim told [ inl e ↦ inr (e ∙ eight) | inr e ↦ inr e ])
 
-refusal_not_four : (status : ℕ) → IsRefusal status → status ≡ 4 → ⊥
-refusal_not_four status (inl one) e = omega arith
-refusal_not_four status (inr three) e = omega arith
+unbuilt_not_four : (status : ℕ) → IsUnbuilt status → status ≡ 4 → ⊥
+unbuilt_not_four status (inl one) e = omega arith
+unbuilt_not_four status (inr (inl three)) e = omega arith
+unbuilt_not_four status (inr (inr eleven)) e = omega arith
 
 build_not_four : (pages : Pages) (name file : List ℕ) (files : List NamedFile) (job : Job) → BuildReports pages name file files job → job.status ≡ 4 → ⊥
 build_not_four pages name file files job (Ok binary, leads, is) four = let e : job.status ≡ 0 = ap (λ (j : Job). j.status) is in omega arith
-build_not_four pages name file files job (Err r, leads, is) four = refusal_not_four r.status (content_status pages file (content_of files file) r leads) (sym (ap (λ (j : Job). j.status) is) ∙ four)
+build_not_four pages name file files job (Err r, leads, is) four = unbuilt_not_four r.status (content_status pages file (content_of files file) r leads) (sym (ap (λ (j : Job). j.status) is) ∙ four)
 
 command_not_four : (command : Option Command) (files : List NamedFile) (job : Job) → CommandReports command files job → job.status ≡ 4 → ⊥
 command_not_four None files job is four = let e : job.status ≡ 2 = ap (λ (j : Job). j.status) is in omega arith
 command_not_four (Some (build lin unr name file)) files job is four = build_not_four (record { lin = lin; unr = unr }) name file files job is four
+command_not_four (Some (dump file)) files job is four = dump_not_four file files job is four
+
+-- a build's job is done, or its file is not built
+pub build_status : (pages : Pages) (name file : List ℕ) (files : List NamedFile) (job : Job) → BuildReports pages name file files job → (job.status ≡ 0) ⊎ IsUnbuilt job.status
+build_status pages name file files job (Ok binary, leads, is) = inl (ap (λ (j : Job). j.status) is)
+build_status pages name file files job (Err r, leads, is) = inr (subst IsUnbuilt (sym (ap (λ (j : Job). j.status) is)) (content_status pages file (content_of files file) r leads))
 
 -- no job is reported with status 4
 pub never_four : (words : List (List ℕ)) (files : List NamedFile) (job : Job) → Reports words files job → job.status ≡ 4 → ⊥
@@ -156,10 +167,10 @@ complete Jobs one job right before after status result line (unbegun same eight 
 complete Jobs one job right before after status result line (unbegun same eight says) (inr e) no_read no_write = inr e
 
 -- a job that has this status
-record HasJob (Jobs : Job → Type 0) (status : ℕ) : Type 0 where
-  job : Job
-  right : Jobs job
-  is : status ≡ job.status
+pub record HasJob (Jobs : Job → Type 0) (status : ℕ) : Type 0 where
+  pub job : Job
+  pub right : Jobs job
+  pub is : status ≡ job.status
 
 job_of : (Jobs : Job → Type 0) (before after : Seen) (status result : ℕ) (line : List ℕ) → Keeps Jobs before after status line → (result ≡ status) ⊎ (result ≡ 8) →
     (result ≡ 4 → ⊥) → (result ≡ 5 → ⊥) → (result ≡ 8 → ⊥) → HasJob Jobs result
@@ -178,7 +189,7 @@ reported words files before after status result line keeps told not_four not_fiv
 text_refused : (pages : Pages) (file bytes : List ℕ) (r : Refused) → TextLeads pages file bytes (Err r) → r.status ≡ 1 → IsRefused (Some bytes)
 text_refused pages file bytes r (not_read none b) one = record { bytes = bytes; is = refl; why = inl none }
 text_refused pages file bytes r (spelled m spells (refused v first found expected b)) one = record { bytes = bytes; is = refl; why = inr (m, spells, v, first) }
-text_refused pages file bytes r (spelled m spells (typed notes t leads)) one = absurd (no_refusal _ r leads.leads)
+text_refused pages file bytes r (spelled m spells (typed notes t leads)) one = absurd (omega (arith, one, binary_status _ r leads.leads))
 
 content_refused : (pages : Pages) (file : List ℕ) (content : Option (List ℕ)) (r : Refused) → ContentLeads pages file content (Err r) → r.status ≡ 1 → IsRefused content
 content_refused pages file None r (Ok bytes, load, leads) one = absurd cc
@@ -187,14 +198,14 @@ content_refused pages file (Some content) r (Ok bytes, inr short, leads) one =
     subst (λ (b : List ℕ). IsRefused (Some b)) (same_bytes bytes content short.1) (text_refused pages file bytes r leads one)
 content_refused pages file content r (Err q, load, leads) one = absurd (omega (arith, one, status_of_err r q leads, load_status file content q load))
 
-text_one : (pages : Pages) (file bytes : List ℕ) (r : Refused) → TextLeads pages file bytes (Err r) → r.status ≡ 1
-text_one pages file bytes r (not_read none b) = status_of_err _ _ b
-text_one pages file bytes r (spelled m spells (refused v first found expected b)) = status_of_err _ _ b
-text_one pages file bytes r (spelled m spells (typed notes t leads)) = absurd (no_refusal _ r leads.leads)
+text_not_three : (pages : Pages) (file bytes : List ℕ) (r : Refused) → TextLeads pages file bytes (Err r) → r.status ≢ 3
+text_not_three pages file bytes r (not_read none b) three = absurd (omega (arith, status_of_err _ _ b))
+text_not_three pages file bytes r (spelled m spells (refused v first found expected b)) three = absurd (omega (arith, status_of_err _ _ b))
+text_not_three pages file bytes r (spelled m spells (typed notes t leads)) three = absurd (omega (arith, binary_status _ r leads.leads))
 
 content_unloadable : (pages : Pages) (file : List ℕ) (content : Option (List ℕ)) (r : Refused) → ContentLeads pages file content (Err r) → r.status ≡ 3 → IsUnloadable content
 content_unloadable pages file None r leads three = tt
-content_unloadable pages file (Some content) r (Ok bytes, load, leads) three = absurd (omega (arith, three, text_one pages file bytes r leads))
+content_unloadable pages file (Some content) r (Ok bytes, load, leads) three = absurd (text_not_three pages file bytes r leads three)
 content_unloadable pages file (Some content) r (Err q, inl long, leads) three = long.0
 content_unloadable pages file (Some content) r (Err q, inr short, leads) three = let e = short.1 in absurd cc
 
@@ -210,9 +221,16 @@ pub why_refused : (lin unr : ℕ) (name file : List ℕ) (words : List (List ℕ
 why_refused lin unr name file words files status spells h one =
     build_refused (record { lin = lin; unr = unr }) name file files h.job (reports_found words (Some (build lin unr name file)) files h.job spells h.reported) (sym h.is ∙ one)
 
-pub why_unloadable : (lin unr : ℕ) (name file : List ℕ) (words : List (List ℕ)) (files : List NamedFile) (status : ℕ) → SpellsCommand words (build lin unr name file) → HasStatus words files status → status ≡ 3 → IsUnloadable (content_of files file)
-why_unloadable lin unr name file words files status spells h three =
-    build_unloadable (record { lin = lin; unr = unr }) name file files h.job (reports_found words (Some (build lin unr name file)) files h.job spells h.reported) (sym h.is ∙ three)
+same_file : (a b : List ℕ) → (let all : List (List ℕ) = a ∷ [] in all) ≡ b ∷ [] → a ≡ b
+same_file a b e = cc
+
+pub why_unloadable : (command : Command) (file : List ℕ) (words : List (List ℕ)) (files : List NamedFile) (status : ℕ) → SpellsCommand words command → files_of command ≡ file ∷ [] → HasStatus words files status → status ≡ 3 → IsUnloadable (content_of files file)
+why_unloadable (build lin unr name own) file words files status spells is h three =
+    subst (λ (f : List ℕ). IsUnloadable (content_of files f)) (same_file own file is)
+    (build_unloadable (record { lin = lin; unr = unr }) name own files h.job (reports_found words (Some (build lin unr name own)) files h.job spells h.reported) (sym h.is ∙ three))
+why_unloadable (dump own) file words files status spells is h three =
+    subst (λ (f : List ℕ). IsUnloadable (content_of files f)) (same_file own file is)
+    (dump_unloadable own files h.job (reports_found words (Some (dump own)) files h.job spells h.reported) (sym h.is ∙ three))
 
 refusal_acts : (pages : Pages) (name file : List ℕ) (files : List NamedFile) (job : Job) → BuildReports pages name file files job → job.status ≢ 0 → job.acts ≡ []
 refusal_acts pages name file files job (Ok binary, leads, is) not_zero = absurd (not_zero (ap (λ (j : Job). j.status) is))
@@ -221,6 +239,7 @@ refusal_acts pages name file files job (Err r, leads, is) not_zero = ap (λ (j :
 no_acts : (command : Option Command) (files : List NamedFile) (job : Job) → CommandReports command files job → job.status ≢ 0 → job.acts ≡ []
 no_acts None files job is not_zero = ap (λ (j : Job). j.acts) is
 no_acts (Some (build lin unr name file)) files job is not_zero = refusal_acts (record { lin = lin; unr = unr }) name file files job is not_zero
+no_acts (Some (dump file)) files job is not_zero = dump_no_acts file files job is not_zero
 
 reported_acts : (words : List (List ℕ)) (files : List NamedFile) (job : Job) → Reports words files job → job.status ≢ 0 → job.acts ≡ []
 reported_acts words files job (command, found, reports) not_zero = no_acts command files job reports not_zero
@@ -242,7 +261,7 @@ untouched words files before after status result line (follows job is how) (inl 
 untouched words files before after status result line (unread file same four says) (inl e) not_zero not_five not_eight = same
 untouched words files before after status result line (unbegun same eight says) (inl e) not_zero not_five not_eight = same
 
-job_or_memory : (Jobs : Job → Type 0) (before after : Seen) (status result : ℕ) (line : List ℕ) → Keeps Jobs before after status line → (result ≡ status) ⊎ (result ≡ 8) →
+pub job_or_memory : (Jobs : Job → Type 0) (before after : Seen) (status result : ℕ) (line : List ℕ) → Keeps Jobs before after status line → (result ≡ status) ⊎ (result ≡ 8) →
     result ≢ 4 → result ≢ 5 → HasJob Jobs result ⊎ (result ≡ 8)
 job_or_memory Jobs before after status result line (follows job is how) told not_four not_five =
     elim (ends_complete job how.done status result line how.ends told not_five) [ inl e ↦ inl (record { job = job; right = is; is = e }) | inr eight ↦ inr eight ]
@@ -262,16 +281,29 @@ not_refused bytes m notes spells derived r = spelled_not_refused (subst (λ (b :
     spelled_not_refused (inl none) = none m spells
     spelled_not_refused (inr (k, others, v, first)) = module_never_both m notes v derived (subst (λ (n : Module). FirstViolation n v) (one_module bytes k m others spells) first)
 
-build_zero : (pages : Pages) (name file bytes : List ℕ) (files : List NamedFile) (m : Module) (notes : List (List Note)) (job : Job) → BuildReports pages name file files job → content_of files file ≡ Some bytes → length bytes ≤ max_file_length →
+build_zero : (pages : Pages) (name file bytes : List ℕ) (files : List NamedFile) (m : Module) (notes : List (List Note)) (job : Job) → ArePages pages → BuildReports pages name file files job → content_of files file ≡ Some bytes → length bytes ≤ max_file_length →
     Spells bytes m → IsTyped m notes → job.status ≡ 0
-build_zero pages name file bytes files m notes job (Ok binary, leads, is) there short spells derived = ap (λ (j : Job). j.status) is
-build_zero pages name file bytes files m notes job (Err r, leads, is) there short spells derived = absurd (elim (content_status pages file (content_of files file) r leads) [
+build_zero pages name file bytes files m notes job are (Ok binary, leads, is) there short spells derived = ap (λ (j : Job). j.status) is
+build_zero pages name file bytes files m notes job are (Err r, leads, is) there short spells derived = absurd (elim (content_status pages file (content_of files file) r leads) [
   | inl one ↦ not_refused bytes m notes spells derived (subst IsRefused there (content_refused pages file (content_of files file) r leads one))
-  | inr three ↦ too_long (subst IsUnloadable there (content_unloadable pages file (content_of files file) r leads three))
+  | inr (inl three) ↦ too_long (subst IsUnloadable there (content_unloadable pages file (content_of files file) r leads three))
+  | inr (inr eleven) ↦ content_fits pages file (content_of files file) r are leads eleven
 ])
   where
     too_long : max_file_length < length bytes → ⊥
     too_long long = omega (arith, long, short)
+
+given_number : (least greatest default : ℕ) (values : List (List ℕ)) (n : ℕ) → least ≤ default → default ≤ greatest → GivesNumber least greatest default values n → (least ≤ n) × (n ≤ greatest)
+given_number least greatest default [] n low high is = (omega (arith, is, low), omega (arith, is, high))
+given_number least greatest default (text ∷ []) n low high is = (is.low, is.high)
+given_number least greatest default (text ∷ other ∷ more) n low high is = absurd is
+
+-- the pages of words are in their ranges
+pub are_pages : (lin unr : ℕ) (name file : List ℕ) (words : List (List ℕ)) → SpellsCommand words (build lin unr name file) → ArePages (record { lin = lin; unr = unr })
+are_pages lin unr name file words plain =
+    let l = given_number 1 512 16 (values_for (codes "--lin") plain.settings) lin (lit≤ tt) (lit≤ tt) plain.given.0 in
+    let u = given_number 0 512 16 (values_for (codes "--unr") plain.settings) unr (lit≤ tt) (lit≤ tt) plain.given.1 in
+    record { some = l.0; linear = l.1; unrestricted = u.1 }
 
 -- a told file whose text spells a typed module is built, unless something failed or memory was wanting
 pub accepted : (lin unr : ℕ) (name file bytes : List ℕ) (words : List (List ℕ)) (files : List NamedFile) (m : Module) (notes : List (List Note)) (before after : Seen) (status result : ℕ) (line : List ℕ) → SpellsCommand words (build lin unr name file) →
@@ -279,6 +311,19 @@ pub accepted : (lin unr : ℕ) (name file bytes : List ℕ) (words : List (List 
     result ≢ 4 → result ≢ 5 → (result ≡ 0) ⊎ (result ≡ 8)
 accepted lin unr name file bytes words files m notes before after status result line plain keeps told there short spells derived not_four not_five =
     elim (job_or_memory (Reports words files) before after status result line keeps told not_four not_five) [
-      | inl h ↦ inl (h.is ∙ build_zero (record { lin = lin; unr = unr }) name file bytes files m notes h.job (reports_found words (Some (build lin unr name file)) files h.job plain h.right) there short spells derived)
+      | inl h ↦ inl (h.is ∙ build_zero (record { lin = lin; unr = unr }) name file bytes files m notes h.job (are_pages lin unr name file words plain) (reports_found words (Some (build lin unr name file)) files h.job plain h.right) there short spells derived)
       | inr eight ↦ inr eight
     ]
+
+build_fits : (pages : Pages) (name file : List ℕ) (files : List NamedFile) (job : Job) → ArePages pages → BuildReports pages name file files job → job.status ≢ 11
+build_fits pages name file files job are (Ok binary, leads, is) eleven = let e : job.status ≡ 0 = ap (λ (j : Job). j.status) is in absurd (omega arith)
+build_fits pages name file files job are (Err r, leads, is) eleven = content_fits pages file (content_of files file) r are leads (sym (ap (λ (j : Job). j.status) is) ∙ eleven)
+
+command_fits : (words : List (List ℕ)) (command : Option Command) (files : List NamedFile) (job : Job) → Finds (SpellsCommand words) command → CommandReports command files job → job.status ≢ 11
+command_fits words None files job found is eleven = let e : job.status ≡ 2 = ap (λ (j : Job). j.status) is in absurd (omega arith)
+command_fits words (Some (build lin unr name file)) files job found is eleven = build_fits (record { lin = lin; unr = unr }) name file files job (are_pages lin unr name file words found) is eleven
+command_fits words (Some (dump file)) files job found is eleven = absurd (elim (dump_status file files job is) [ inl zero ↦ omega arith | inr (inl three) ↦ omega arith | inr (inr nine) ↦ omega arith ])
+
+-- no section of a built module is too long
+pub fits : (words : List (List ℕ)) (files : List NamedFile) (status : ℕ) → HasStatus words files status → status ≢ 11
+fits words files status h eleven = command_fits words h.reported.0 files h.job h.reported.1 h.reported.2 (sym h.is ∙ eleven)

@@ -23,29 +23,47 @@ use Rattle.lowering_laws.proofs.Behaves.{lowered_behaves, lowered_ends}
 use Rattle.rw_program.specs.Linking.{program_of}
 use Rattle.rw_program.specs.Programs.{Program}
 use Rattle.lowering_table.specs.declared.Pages.{Pages}
-use Rattle.lowering_table.specs.Modules.{low_module}
+use Rattle.lowering_table.specs.Modules.{ArePages, low_module}
+use Rattle.lower.proofs.ShortContents.{low_has_short_contents}
+use Rattle.wasm_spelling.specs.SpellingLaws.{HasShortContents}
 use Rattle.rw_io.specs.Files.{NamedFile, content_of}
 use Rattle.rw_io.specs.States.{ShelfState, SinkState}
 use Rattle.rwc.specs.Acts.{Act, Seen, after_acts, seen_of}
 use Rattle.rwc.specs.Built.{Built}
-use Rattle.rwc.specs.Compiled.{Refused, BinaryLeads, ModuleLeads, refused, typed, TextLeads, not_read, spelled}
+use Rattle.rwc.specs.Compiled.{Refused, BinaryLeads, encoded, too_long, ModuleLeads, refused, typed, TextLeads, not_read, spelled}
 use Rattle.rwc.specs.Endings.{Ends, whole, unwritten, no_memory, no_memory_within, Follows, Keeps, follows, unread, unbegun}
 use Rattle.rwc.specs.Lines.{wrote_line}
-use Rattle.rwc.specs.Stops.{IsRefusal}
-use Rattle.rwc.specs.Reports.{Job, LoadLeads, ContentLeads, build_job, BuildReports}
+use Rattle.rwc.specs.Jobs.{Job, LoadLeads}
+use Rattle.rwc.specs.Reports.{ContentLeads, build_job, BuildReports}
 
 pub status_of_err : (a b : Refused) → (let r : Result (List ℕ) Refused = Err a in r) ≡ Err b → a.status ≡ b.status
 status_of_err a b e = let same : a ≡ b = cc in ap (λ (r : Refused). r.status) same
 
--- a refusal has a status of its own
-pub no_refusal : (m : WModule) (r : Refused) → BinaryLeads m (Err r) → ⊥
-no_refusal m r leads = let e = leads.is in cc
+pub same_bytes : (a b : List ℕ) → (let r : Result (List ℕ) Refused = Ok a in r) ≡ Ok b → a ≡ b
+same_bytes a b e = cc
 
-module_status : (pages : Pages) (file : List ℕ) (m : Module) (r : Refused) → ModuleLeads pages file m (Err r) → IsRefusal r.status
+-- a module is refused where a section is too long
+pub binary_status : (m : WModule) (r : Refused) → BinaryLeads m (Err r) → r.status ≡ 11
+binary_status m r (encoded fits means is) = absurd cc
+binary_status m r (too_long id first is) = status_of_err _ _ is
+
+binary_long : (m : WModule) (r : Refused) → BinaryLeads m (Err r) → HasShortContents m → ⊥
+binary_long m r (encoded fits means is) short = cc
+binary_long m r (too_long id first is) short = omega (arith, first.0, short id)
+
+binary_ok : (m : WModule) (binary : List ℕ) → BinaryLeads m (Ok binary) → SpellsModule (module_bytes m) m × (binary ≡ module_bytes m)
+binary_ok m binary (encoded fits means is) = (means, same_bytes _ _ is)
+binary_ok m binary (too_long id first is) = absurd cc
+
+-- the statuses of a file that is not built
+abbrev pub IsUnbuilt : ℕ → Type 0
+IsUnbuilt status = (status ≡ 1) ⊎ ((status ≡ 3) ⊎ (status ≡ 11))
+
+module_status : (pages : Pages) (file : List ℕ) (m : Module) (r : Refused) → ModuleLeads pages file m (Err r) → IsUnbuilt r.status
 module_status pages file m r (refused v first found expected b) = inl (status_of_err _ _ b)
-module_status pages file m r (typed notes t leads) = absurd (no_refusal (low_module leads.program pages) r leads.leads)
+module_status pages file m r (typed notes t leads) = inr (inr (binary_status (low_module leads.program pages) r leads.leads))
 
-text_status : (pages : Pages) (file bytes : List ℕ) (r : Refused) → TextLeads pages file bytes (Err r) → IsRefusal r.status
+text_status : (pages : Pages) (file bytes : List ℕ) (r : Refused) → TextLeads pages file bytes (Err r) → IsUnbuilt r.status
 text_status pages file bytes r (not_read none b) = inl (status_of_err _ _ b)
 text_status pages file bytes r (spelled m spells leads) = module_status pages file m r leads
 
@@ -54,13 +72,14 @@ load_status file None r e = status_of_err _ _ e
 load_status file (Some bytes) r (inl long) = status_of_err _ _ long.1
 load_status file (Some bytes) r (inr short) = let e = short.1 in absurd cc
 
-pub content_status : (pages : Pages) (file : List ℕ) (content : Option (List ℕ)) (r : Refused) → ContentLeads pages file content (Err r) → IsRefusal r.status
+pub content_status : (pages : Pages) (file : List ℕ) (content : Option (List ℕ)) (r : Refused) → ContentLeads pages file content (Err r) → IsUnbuilt r.status
 content_status pages file content r (Ok bytes, load, leads) = text_status pages file bytes r leads
-content_status pages file content r (Err q, load, leads) = inr (status_of_err _ _ leads ∙ load_status file content q load)
+content_status pages file content r (Err q, load, leads) = inr (inl (status_of_err _ _ leads ∙ load_status file content q load))
 
-not_zero : (status : ℕ) → IsRefusal status → status ≢ 0
+not_zero : (status : ℕ) → IsUnbuilt status → status ≢ 0
 not_zero status (inl one) zero = absurd (omega arith)
-not_zero status (inr three) zero = absurd (omega arith)
+not_zero status (inr (inl three)) zero = absurd (omega arith)
+not_zero status (inr (inr eleven)) zero = absurd (omega arith)
 
 -- the program of a typed module is one that is lowered so far
 record OneBody (body : List Instr) (notes : List (List Note)) : Type 0 where
@@ -84,6 +103,17 @@ program_lone source notes q t linked =
     ap (λ (m : Module). program_of (record { source = m; notes = notes })) t.lone.is ∙ ap (λ (all : List (List Note)). program_of (record { source = lone_main body; notes = all })) one.is in
     record { body = body; notes = one.own; is = same_program (lone_program body one.own) q (sym whole ∙ linked); plain = t.lone.plain; short = t.lone.short; derived = one.derived }
 
+-- no section of what a text leads to is too long
+text_fits : (pages : Pages) (file bytes : List ℕ) (r : Refused) → ArePages pages → TextLeads pages file bytes (Err r) → r.status ≢ 11
+text_fits pages file bytes r are (not_read none b) eleven = absurd (omega (arith, status_of_err _ _ b))
+text_fits pages file bytes r are (spelled m spells (refused v first found expected b)) eleven = absurd (omega (arith, status_of_err _ _ b))
+text_fits pages file bytes r are (spelled m spells (typed notes t leads)) eleven =
+    absurd (binary_long (low_module leads.program pages) r leads.leads (low_has_short_contents leads.program pages (program_lone m notes leads.program t leads.linked) are))
+
+pub content_fits : (pages : Pages) (file : List ℕ) (content : Option (List ℕ)) (r : Refused) → ArePages pages → ContentLeads pages file content (Err r) → r.status ≢ 11
+content_fits pages file content r are (Ok bytes, load, leads) eleven = text_fits pages file bytes r are leads eleven
+content_fits pages file content r are (Err q, load, leads) eleven = absurd (omega (arith, status_of_err _ _ leads, load_status file content q load))
+
 -- what an accepted text leads to
 record Accepted (pages : Pages) (bytes binary : List ℕ) : Type 0 where
   source : Module
@@ -97,9 +127,6 @@ record Accepted (pages : Pages) (bytes binary : List ℕ) : Type 0 where
   ends : BothEnd (λ n. rich program n) (λ m. wasm (low_module program pages) m)
   is : binary ≡ module_bytes (low_module program pages)
 
-pub same_bytes : (a b : List ℕ) → (let r : Result (List ℕ) Refused = Ok a in r) ≡ Ok b → a ≡ b
-same_bytes a b e = cc
-
 module_accepted : (pages : Pages) (file bytes binary : List ℕ) (m : Module) → Spells bytes m → ModuleLeads pages file m (Ok binary) → Accepted pages bytes binary
 module_accepted pages file bytes binary m spells (refused v first found expected b) = absurd cc
 module_accepted pages file bytes binary m spells (typed notes t leads) = record {
@@ -109,10 +136,10 @@ module_accepted pages file bytes binary m spells (typed notes t leads) = record 
   derived = t;
   program = leads.program;
   linked = leads.linked;
-  means = leads.leads.spells;
+  means = (binary_ok (low_module leads.program pages) binary leads.leads).0;
   behaves = lowered_behaves leads.program pages (program_lone m notes leads.program t leads.linked);
   ends = lowered_ends leads.program pages (program_lone m notes leads.program t leads.linked);
-  is = same_bytes _ _ leads.leads.is;
+  is = (binary_ok (low_module leads.program pages) binary leads.leads).1;
 }
 
 text_accepted : (pages : Pages) (file bytes binary : List ℕ) → TextLeads pages file bytes (Ok binary) → Accepted pages bytes binary

@@ -6,16 +6,20 @@ use Rattle.std.specs.Io.KnownBytes.{append_known}
 use Rattle.rw_io.specs.Files.{NamedFile, content_of}
 use Rattle.rw_io.specs.States.{SinkState}
 use Rattle.lowering_table.specs.declared.Pages.{Pages}
+use Rattle.rwc.specs.declared.ending.Done.{Done}
+use Rattle.rwc.specs.declared.ending.Done.TheVariants.{Finished, Trapped, Spent}
 use Rattle.rwc.specs.declared.ending.Stop.{Stop}
 use Rattle.rwc.specs.declared.ending.Stop.TheVariants.{Refused as IsRefused, Unread, Unwritten, Memory}
 use Rattle.rwc.specs.Acts.{Act, Seen, after_act, after_acts, BreaksOff}
 use Rattle.rwc.specs.Endings.{Ends, whole, unwritten, no_memory_within, Follows, Keeps, follows, unread, unbegun}
 use Rattle.rwc.specs.Lines.{words_line, read_fault_line, write_fault_line}
 use Rattle.rwc.specs.Outcomes.{Tells}
-use Rattle.rwc.specs.Reports.{Job, refusal_job, ContentLeads, BuildReports, CommandReports}
-use Rattle.rwc.specs.Stops.{IfStop, IsRefusal as IsRefusalStatus, Breaks, stop_status, stop_line}
+use Rattle.rwc.specs.Dumps.{BytesReport}
+use Rattle.rwc.specs.Jobs.{Job, refusal_job, LoadLeads}
+use Rattle.rwc.specs.Reports.{ContentLeads, BuildReports, DumpReports, CommandReports}
+use Rattle.rwc.specs.Stops.{IfStop, IsRefusal as IsRefusalStatus, Breaks, done_status, stop_status, stop_line}
 
-after_acts-append : (xs ys : List Act) (seen : Seen) → after_acts (xs ++ ys) seen ≡ after_acts ys (after_acts xs seen)
+pub after_acts-append : (xs ys : List Act) (seen : Seen) → after_acts (xs ++ ys) seen ≡ after_acts ys (after_acts xs seen)
 after_acts-append [] ys seen = refl
 after_acts-append (x ∷ xs) ys seen = after_acts-append xs ys (after_act x seen)
 
@@ -62,11 +66,37 @@ build_stopped pages name file files before after (Unread line) B P same leads ca
 build_stopped pages name file files before after (Unwritten line) B P same leads causes = absurd leads
 build_stopped pages name file files before after Memory B P same leads causes = stopped_before _ before after Memory file P same tt
 
+-- a job that was done has no status of a refusal
+pub done_not_nine : (done : Done) → done_status done ≡ 9 → ⊥
+done_not_nine Finished nine = omega arith
+done_not_nine Trapped nine = omega arith
+done_not_nine Spent nine = omega arith
+
+-- dumping was stopped before anything was done
+pub dump_stopped : (file : List ℕ) (files : List NamedFile) (before after : Seen) (stop : Stop) (B : ℕ → List ℕ → Type 0) (P : Type 0) → after ≡ before →
+    IfStop stop (λ status line. LoadLeads file (content_of files file) (Err (record { status = status; line = line }))) (λ _. Unit {0}) (λ _. ⊥) →
+    IfStop stop B (λ line. (line ≡ read_fault_line file) × P) (λ _. ⊥) →
+    Keeps (DumpReports file files) before after (stop_status stop) (stop_line stop)
+dump_stopped file files before after (IsRefused status line) B P same load causes = stopped_before _ before after (IsRefused status line) file P same (Err (record { status = status; line = string_bytes line }), load, refl)
+dump_stopped file files before after (Unread line) B P same load causes = stopped_before _ before after (Unread line) file P same causes
+dump_stopped file files before after (Unwritten line) B P same load causes = absurd load
+dump_stopped file files before after Memory B P same load causes = stopped_before _ before after Memory file P same tt
+
+-- dumping bytes was stopped before anything was done
+pub bytes_stopped : (file bytes : List ℕ) (seen : Seen) (stop : Stop) → IfStop stop (λ status line. (status ≡ 9) × BytesReport file bytes (refusal_job (record { status = status; line = line }))) (λ _. ⊥) (λ _. ⊥) →
+    Keeps (BytesReport file bytes) seen seen (stop_status stop) (stop_line stop)
+bytes_stopped file bytes seen (IsRefused status line) says = stopped_before _ seen seen (IsRefused status line) [] (Unit {0}) refl says.1
+bytes_stopped file bytes seen (Unread line) says = absurd says
+bytes_stopped file bytes seen (Unwritten line) says = absurd says
+bytes_stopped file bytes seen Memory says = unbegun refl refl refl
+
 -- words are refused where they spell nothing
 pub words_refused : (stop : Stop) (N : Type 0) (L W : List ℕ → Type 0) → IfStop stop (λ status _. ((status ≡ 2) × N) ⊎ IsRefusalStatus status) L W → stop_status stop ≡ 2 → N
 words_refused (IsRefused status line) N L W (inl spells) two = spells.1
 words_refused (IsRefused status line) N L W (inr (inl one)) two = absurd (omega arith)
-words_refused (IsRefused status line) N L W (inr (inr three)) two = absurd (omega arith)
+words_refused (IsRefused status line) N L W (inr (inr (inl three))) two = absurd (omega arith)
+words_refused (IsRefused status line) N L W (inr (inr (inr (inl nine)))) two = absurd (omega arith)
+words_refused (IsRefused status line) N L W (inr (inr (inr (inr eleven)))) two = absurd (omega arith)
 words_refused (Unread line) N L W says two = absurd (omega arith)
 words_refused (Unwritten line) N L W says two = absurd (omega arith)
 words_refused Memory N L W says two = absurd (omega arith)

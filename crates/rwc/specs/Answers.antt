@@ -7,7 +7,8 @@ use Rattle.rw_text.specs.Spells.{Spells, SpellsNone}
 use Rattle.rich_meaning.specs.Violations.{Violation, FirstViolation}
 use Rattle.rw_io.specs.Files.{NamedFile}
 use Rattle.rwc.specs.Acts.{Act, create, append, put}
-use Rattle.rwc.specs.Reports.{Job, Reports, max_file_length}
+use Rattle.rwc.specs.Jobs.{Job, max_file_length}
+use Rattle.rwc.specs.Reports.{Reports}
 
 -- what acts put to standard output
 abbrev pub text_of : List Act → List ℕ

@@ -15,7 +15,8 @@ use Rattle.rw_program.specs.Programs.{Program}
 use Rattle.rw_program.specs.Linking.{program_of}
 use Rattle.lowering_table.specs.declared.Pages.{Pages}
 use Rattle.lowering_table.specs.Modules.{low_module}
-use Rattle.rwc.specs.Lines.{text_line}
+use Rattle.wasm_encode.specs.Contents.{EachContentFits, IsFirstTooLong}
+use Rattle.rwc.specs.Lines.{text_line, too_many_section_line}
 use Rattle.rwc.specs.Refusals.{refused_line}
 
 -- a refusal: its status, and the line that says why
@@ -23,10 +24,11 @@ pub record Refused : Type 0 where
   pub status : ℕ
   pub line : List ℕ
 
--- a WebAssembly module leads to its canonical bytes, which by the grammar spell it, all of them
-pub record BinaryLeads (m : WModule) (binary : Result (List ℕ) Refused) : Type 0 where
-  pub spells : SpellsModule (module_bytes m) m
-  pub is : binary ≡ Ok (module_bytes m)
+-- what a WebAssembly module leads to: its canonical bytes, which by the grammar spell it, all of them; or the refusal of a
+-- section whose content has 2^32 bytes or more, which is the first such one
+pub data BinaryLeads (m : WModule) (binary : Result (List ℕ) Refused) : Type 0 where
+  encoded : EachContentFits m → SpellsModule (module_bytes m) m → binary ≡ Ok (module_bytes m) → BinaryLeads m binary
+  too_long : (id : ℕ) → IsFirstTooLong m id → binary ≡ Err (record { status = 11; line = too_many_section_line id }) → BinaryLeads m binary
 
 -- what a checked module leads to, which is linked alone and lowered for so many pages
 pub record CheckedLeads (pages : Pages) (file : TypedModule) (binary : Result (List ℕ) Refused) : Type 0 where

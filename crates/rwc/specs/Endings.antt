@@ -4,7 +4,7 @@ use Rattle.rw_io.specs.Counts.{Rose}
 use Rattle.rw_io.specs.States.{ShelfState, SinkState}
 use Rattle.rwc.specs.Acts.{Act, Seen, after_acts, BreaksOff}
 use Rattle.rwc.specs.Lines.{read_fault_line, write_fault_line, memory_line}
-use Rattle.rwc.specs.Reports.{Job}
+use Rattle.rwc.specs.Jobs.{Job}
 
 -- the status and the line with which a call that did these acts of its job may end
 pub data Ends (job : Job) : List Act → ℕ → List ℕ → Type 0 where

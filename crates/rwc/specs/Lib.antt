@@ -1,6 +1,8 @@
 pub mod Acts
 pub mod Lines
 pub mod Compiled
+pub mod Jobs
+pub mod Dumps
 pub mod Reports
 pub mod Endings
 pub mod Stops
@@ -8,3 +10,4 @@ pub mod Outcomes
 pub mod Refusals
 pub mod Built
 pub mod Answers
+pub mod Dumped

@@ -1,5 +1,5 @@
 -- The lines that the tool prints; this project's own.
-use Rattle.std.specs.Prelude.{ℕ, List, ◌++◌, codes, decimal}
+use Rattle.std.specs.Prelude.{ℕ, List, ◌++◌, Bool, true, false, codes, decimal}
 
 abbrev pub words_line : List ℕ
 words_line = codes "words\n"
@@ -28,3 +28,23 @@ text_line file line column fault =
 -- a name and the number of bytes created under it
 abbrev pub wrote_line : List ℕ → ℕ → List ℕ
 wrote_line name count = codes "wrote " ++ (name ++ (codes " " ++ (decimal count ++ codes " bytes\n")))
+
+-- the id of a section whose content is too long
+abbrev pub too_many_section_line : ℕ → List ℕ
+too_many_section_line id = codes "too many section " ++ (decimal id ++ codes "\n")
+
+-- a file, the number of bytes before a fault, and the name of the fault
+abbrev pub malformed_line : List ℕ → ℕ → List ℕ → List ℕ
+malformed_line file at fault = codes "malformed " ++ (file ++ (codes " at " ++ (decimal at ++ (codes " " ++ (fault ++ codes "\n")))))
+
+-- a name and a number
+abbrev pub count_line : List ℕ → ℕ → List ℕ
+count_line what count = what ++ (codes " " ++ (decimal count ++ codes "\n"))
+
+abbrev pub yes_or_no : Bool → List ℕ
+yes_or_no true = codes "yes"
+yes_or_no false = codes "no"
+
+-- a name and yes or no
+abbrev pub answer_line : List ℕ → Bool → List ℕ
+answer_line what answer = what ++ (codes " " ++ (yes_or_no answer ++ codes "\n"))

@@ -4,7 +4,7 @@ use Rattle.std.specs.Io.KnownBytes.{append_known}
 use Rattle.rw_io.specs.Counts.{Rose}
 use Rattle.rw_io.specs.States.{ShelfState, SinkState}
 use Rattle.rwc.specs.Acts.{seen_of}
-use Rattle.rwc.specs.Reports.{Job}
+use Rattle.rwc.specs.Jobs.{Job}
 use Rattle.rwc.specs.Endings.{Keeps}
 
 -- A line was put to standard error, whole unless that failed, stalled or found no memory. The last alone changes

@@ -65,6 +65,7 @@ abbrev pub Performs : {T : Type 0} → Act → Seen → Seen → Result T Stop �
 Performs act before after (Ok _) = after ≡ after_act act before
 Performs act before after (Err stop) = Breaks act before after stop
 
--- the statuses of a refused file: its text or module is refused, or it is missing or too long
+-- the statuses of a refused file: its text or module is refused, it is missing or too long, its binary is malformed, or a
+-- section of its binary would be too long
 abbrev pub IsRefusal : ℕ → Type 0
-IsRefusal status = (status ≡ 1) ⊎ (status ≡ 3)
+IsRefusal status = (status ≡ 1) ⊎ ((status ≡ 3) ⊎ ((status ≡ 9) ⊎ (status ≡ 11)))

@@ -6,7 +6,7 @@ ghost use Rattle.rw_io.specs.States.{NoShelfCountFell};
 ghost use Rattle.rwc.specs.Acts.{seen_of};
 ghost use Rattle.rwc.specs.Endings.{Follows, Keeps, WriteRose};
 ghost use Rattle.rwc.specs.Lines.{read_fault_line};
-ghost use Rattle.rwc.specs.Reports.{ContentLeads, BuildReports, build_job, LoadLeads};
+ghost use Rattle.rwc.specs.Reports.{ContentLeads, BuildReports, build_job};
 ghost use Rattle.lowering_table.specs.Modules.{ArePages};
 ghost use Rattle.words.specs.Files.{is_source_file};
 ghost use Rattle.rwc.specs.Stops.{IsRefusal, IsStep, IfStopped, status_of, line_of};
@@ -14,31 +14,11 @@ ghost use Rattle.rwc.specs.Stops.{IsRefusal, IsStep, IfStopped, status_of, line_
 use crate::compile::binary_of_text;
 use crate::ending::{Done, Stop};
 use crate::lines;
+use crate::load::load_file;
 use crate::perform::{append_piece, create_file, put_piece};
 use lower::Pages;
-use rw_io::{LoadError, Shelf, Sink};
+use rw_io::{Shelf, Sink};
 use std::alloc::Global;
-
-/// The greatest length of a file, in bytes.
-const MAX_FILE_LENGTH: u32 = 16_777_216;
-
-/// A file's bytes.
-fn load_file<S: Shelf>(alloc: Global, shelf: &mut S, file: &str) -> Result<Vec<u8>, Stop>
-    ensures content { (files : List NamedFile) → (S.state shelf.old).holding.files ≡ Some files
-        → IsStep (LoadLeads file.now (content_of files file.now)) result }
-    ensures causes { IfStopped result (λ status _. status ≡ 3)
-        (λ line. (line ≡ read_fault_line file.now) × Rose (S.state shelf.old).load_faults (S.state shelf.new).load_faults) (λ _. ⊥) }
-    ensures same { (S.state shelf.new).holding ≡ (S.state shelf.old).holding }
-    ensures counts { NoShelfCountFell (S.state shelf.old) (S.state shelf.new) }
-{
-    match shelf.load(alloc, file, MAX_FILE_LENGTH) {
-        Ok(bytes) => Ok(bytes),
-        Err(LoadError::Missing) => Err(Stop::refused(3, lines::missing(alloc, file))),
-        Err(LoadError::TooLong) => Err(Stop::refused(3, lines::too_long(alloc, file))),
-        Err(LoadError::Failed) => Err(Stop::unread(lines::read_fault(alloc, file))),
-        Err(LoadError::Memory) => Err(Stop::Memory),
-    }
-}
 
 /// The binary that a file gives, for so many pages.
 fn binary_of_file<S: Shelf>(

@@ -2,7 +2,6 @@
 ghost use Rattle.std.specs.Prelude.{◌≡◌, true, IfOk, Some};
 ghost use Rattle.wasm_grammar.specs.Nesting.{ModuleNestsAtMost, nesting_limit};
 ghost use Rattle.wasm_grammar.specs.Profile.{IsInProfile};
-ghost use Rattle.wasm_spelling.specs.SpellingLaws.{HasShortContents};
 ghost use Rattle.rw_types.specs.LoneMain.{IsLoneMain};
 ghost use Rattle.lowering_table.specs.Modules.{ArePages, low_module};
 ghost use Rattle.rw_program.specs.Linking.{program_of};
@@ -132,13 +131,14 @@ fn binary_of_program(alloc: Global, pages: &Pages, program: &Linked) -> Result<V
 fn binary_of_lowered(alloc: Global, lowered: &WModule) -> Result<Vec<u8>, Stop>
     requires nests { ModuleNestsAtMost nesting_limit lowered.now }
     requires profile { IsInProfile lowered.now }
-    requires short { HasShortContents lowered.now }
     ensures leads { IsStep (BinaryLeads lowered.now) result }
     ensures causes { IfStopped result (λ status _. IsRefusal status) (λ _. ⊥) (λ _. ⊥) }
 {
     match encode(alloc, lowered) {
         Ok(bytes) => Ok(bytes),
-        Err(EncodeError::TooLong(_)) => unreachable!(),
+        Err(EncodeError::TooLong(section)) => {
+            Err(Stop::refused(11, lines::too_many_section(alloc, section)))
+        }
         Err(EncodeError::Memory) => Err(Stop::Memory),
     }
 }

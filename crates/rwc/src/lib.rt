@@ -3,9 +3,11 @@
 
 mod build;
 mod compile;
+mod dump;
 mod ending;
 mod laws;
 mod lines;
+mod load;
 mod perform;
 mod refusals;
 mod top;

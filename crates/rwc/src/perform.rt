@@ -1,13 +1,15 @@
 // The acts of a job, each done whole or stopped at a failure, a stall or want of memory.
-ghost use Rattle.std.specs.Prelude.{◌≡◌, ◌≢◌, ◌⊎◌, true};
+ghost use Rattle.std.specs.Prelude.{◌≡◌, ◌≢◌, ◌⊎◌, true, map, string_bytes};
 ghost use Rattle.rw_io.specs.declared.whole.WriteStop.TheVariants.{Memory as NoMemory};
 ghost use Rattle.rw_io.specs.States.{ShelfState, SinkState, NoShelfCountFell, NoSinkCountFell};
 ghost use Rattle.rw_io.specs.Counts.{Rose};
 ghost use Rattle.rwc.specs.Acts.{create, append, put, seen_of};
+ghost use Rattle.rwc.specs.Dumps.{lines_job};
+ghost use Rattle.rwc.specs.Endings.{Follows};
 ghost use Rattle.rwc.specs.Lines.{write_fault_line};
-ghost use Rattle.rwc.specs.Stops.{IfStop, IfStopped, Performs};
+ghost use Rattle.rwc.specs.Stops.{IfStop, IfStopped, Performs, status_of, line_of};
 
-use crate::ending::Stop;
+use crate::ending::{Done, Stop};
 use crate::lines;
 use rw_io::{PutError, Shelf, Sink, Unwritten, WriteStop, append_whole, put_whole};
 use std::alloc::Global;
@@ -62,4 +64,19 @@ pub fn put_piece<O: Sink>(alloc: Global, out: &mut O, piece: &[u8]) -> Result<()
         Ok(()) => Ok(()),
         Err(unwritten) => Err(not_whole(alloc, unwritten)),
     }
+}
+
+/// Puts lines one after another, each a piece of its own.
+pub fn put_lines<O: Sink>(alloc: Global, out: &mut O, lines: &[String]) -> Result<Done, Stop>
+    ensures follows { (shelf : ShelfState) → Follows (lines_job (map string_bytes lines.now)) (seen_of shelf (O.state out.old))
+        (seen_of shelf (O.state out.new)) (status_of result) (line_of result) }
+    ensures causes { IfStopped result (λ _ _. ⊥) (λ _. ⊥) (λ _. Rose (O.state out.old).faults (O.state out.new).faults
+        ⊎ Rose (O.state out.old).stalls (O.state out.new).stalls) }
+{
+    for line in lines {
+        if let Err(stop) = put_piece(alloc, out, line.as_bytes()) {
+            return Err(stop);
+        }
+    }
+    Ok(Done::Finished)
 }

@@ -1,23 +1,30 @@
 // The top call: all that the program does.
-ghost use Rattle.std.specs.Prelude.{◌≡◌, ◌≢◌, ◌≤◌, ◌⊎◌, ℕ, List, Some, None, IsErr, string_bytes, map, length};
+ghost use Rattle.std.specs.Prelude.{◌≡◌, ◌≢◌, ◌≤◌, ◌⊎◌, ℕ, List, [], ◌∷◌, Some, None, IsErr, string_bytes, map, length};
 ghost use Rattle.rich_meaning.specs.declared.notes.Note.{Note};
 ghost use Rattle.rich_meaning.specs.Derivations.{IsTyped};
 ghost use Rattle.rw_io.specs.Counts.{Rose};
+ghost use Rattle.wasm_ast.specs.declared.modules.WModule.{WModule};
+ghost use Rattle.wasm_grammar.specs.GrammarModules.{SpellsModule};
+ghost use Rattle.wasm_reading.specs.declared.fault.DecodeError.{DecodeError};
+ghost use Rattle.wasm_reading_laws.specs.ModulesRead.{HasFirstFault};
 ghost use Rattle.rw_text.specs.Spells.{Spells};
 ghost use Rattle.rw_types.specs.declared.modules.Module.{Module};
 ghost use Rattle.rw_io.specs.Files.{NamedFile, content_of};
 ghost use Rattle.rwc.specs.Acts.{seen_of};
 ghost use Rattle.rwc.specs.Answers.{text_of, PutsText, HasStatus, IsUnloadable, IsRefused};
 ghost use Rattle.rwc.specs.Built.{Built};
+ghost use Rattle.rwc.specs.Dumped.{Dumped, Malformed};
 ghost use Rattle.rwc.specs.Endings.{Keeps, WriteRose};
 ghost use Rattle.rwc.specs.Lines.{words_line};
 ghost use Rattle.rwc.specs.Outcomes.{Tells, Outcome};
-ghost use Rattle.rwc.specs.Reports.{Job, Reports, CommandReports, max_file_length};
+ghost use Rattle.rwc.specs.Jobs.{Job, max_file_length};
+ghost use Rattle.rwc.specs.Reports.{Reports, CommandReports};
 ghost use Rattle.rwc.specs.Stops.{IsRefusal, stop_status, stop_line, status_of, line_of, IfStop, IfStopped};
-ghost use Rattle.words.specs.Words.{SpellsCommand, SpellNothing, HasFiles, build};
+ghost use Rattle.words.specs.Words.{Command as WordsCommand, SpellsCommand, SpellNothing, HasFiles, build, dump, files_of};
 ghost use Rattle.words.specs.Commands.{spelled_command, spelled_build, HasPages};
 
 use crate::build::build;
+use crate::dump::dump;
 use crate::ending::{Done, Status, Stop};
 use lower::Pages;
 use rw_io::{Shelf, Sink, WriteStop, put_whole};
@@ -47,11 +54,22 @@ pub fn rwc<S: Shelf, O: Sink, E: Sink>(
         → result.0 ≢ 4 → result.0 ≢ 5 → (result.0 ≡ job.status) ⊎ (result.0 ≡ 8) }
     ensures refused { (lin unr : ℕ) (name file : List ℕ) (files : List NamedFile) → SpellsCommand (map string_bytes words.now) (build lin unr name file)
         → (S.state shelf.old).holding.files ≡ Some files → result.0 ≡ 1 → IsRefused (content_of files file) }
-    ensures unloadable { (lin unr : ℕ) (name file : List ℕ) (files : List NamedFile) → SpellsCommand (map string_bytes words.now) (build lin unr name file)
+    ensures unloadable { (command : WordsCommand) (file : List ℕ) (files : List NamedFile) → SpellsCommand (map string_bytes words.now) command → files_of command ≡ file ∷ []
         → (S.state shelf.old).holding.files ≡ Some files → result.0 ≡ 3 → IsUnloadable (content_of files file) }
     ensures accepted { (lin unr : ℕ) (name file bytes : List ℕ) (files : List NamedFile) (m : Module) (notes : List (List Note)) → SpellsCommand (map string_bytes words.now) (build lin unr name file)
         → (S.state shelf.old).holding.files ≡ Some files → content_of files file ≡ Some bytes → length bytes ≤ max_file_length → Spells bytes m → IsTyped m notes
         → result.0 ≢ 4 → result.0 ≢ 5 → (result.0 ≡ 0) ⊎ (result.0 ≡ 8) }
+    ensures fits { (files : List NamedFile) → (S.state shelf.old).holding.files ≡ Some files → result.0 ≢ 11 }
+    ensures dumped { (file said : List ℕ) (files : List NamedFile) → SpellsCommand (map string_bytes words.now) (dump file)
+        → (S.state shelf.old).holding.files ≡ Some files → (O.state out.old).bytes ≡ Some said → result.0 ≡ 0 → Dumped files file said (O.state out.new) }
+    ensures malformed { (files : List NamedFile) → (S.state shelf.old).holding.files ≡ Some files → result.0 ≡ 9
+        → Malformed (map string_bytes words.now) files (E.state err.old) (E.state err.new) }
+    ensures readable { (file bytes : List ℕ) (files : List NamedFile) (m : WModule) → SpellsCommand (map string_bytes words.now) (dump file)
+        → (S.state shelf.old).holding.files ≡ Some files → content_of files file ≡ Some bytes → length bytes ≤ max_file_length → SpellsModule bytes m
+        → result.0 ≢ 4 → result.0 ≢ 5 → (result.0 ≡ 0) ⊎ (result.0 ≡ 8) }
+    ensures unreadable { (file bytes : List ℕ) (files : List NamedFile) (e : DecodeError) → SpellsCommand (map string_bytes words.now) (dump file)
+        → (S.state shelf.old).holding.files ≡ Some files → content_of files file ≡ Some bytes → length bytes ≤ max_file_length → HasFirstFault bytes e
+        → result.0 ≢ 4 → result.0 ≢ 5 → (result.0 ≡ 9) ⊎ (result.0 ≡ 8) }
     ensures untouched { (files : List NamedFile) → (S.state shelf.old).holding.files ≡ Some files → result.0 ≢ 0 → result.0 ≢ 5 → result.0 ≢ 8
         → seen_of (S.state shelf.new) (O.state out.new) ≡ seen_of (S.state shelf.old) (O.state out.old) }
     ensures words_refused { result.0 ≡ 2 → SpellNothing (map string_bytes words.now) }
@@ -103,15 +121,9 @@ fn perform_command<S: Shelf, O: Sink>(
         (λ _. Rose (S.state shelf.old).load_faults (S.state shelf.new).load_faults)
         (λ _. WriteRose (S.state shelf.old) (S.state shelf.new) (O.state out.old) (O.state out.new)) }
 {
-    let words = build_words(command);
-    perform_build(alloc, &words, shelf, out)
-}
-
-fn build_words<'a>(command: &Command<'a>) -> Build<'a>
-    ensures { spelled_build result ≡ spelled_command command.now }
-{
     match command {
-        Command::Build(words) => *words,
+        Command::Build(words) => perform_build(alloc, words, shelf, out),
+        Command::Dump(words) => dump(alloc, words.file, shelf, out),
     }
 }
 

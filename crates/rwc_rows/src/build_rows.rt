@@ -2,14 +2,14 @@
 use crate::rows::{AMPLE, Plan, Row, SEVEN, SEVEN_BINARY, is_as_told};
 use std::test::Fail;
 
-const TOO_FEW: &str =
-    "(module 1 (func (fun () () ((unr i64))) (locals) drop (i64.const 0)) (export \"main\" 0))";
+const TOO_FEW: &[u8] =
+    b"(module 1 (func (fun () () ((unr i64))) (locals) drop (i64.const 0)) (export \"main\" 0))";
 
-const TOO_MANY: &str =
-    "(module 1 (func (fun () () ((unr i64))) (locals) (i64.const 1) (i64.const 0)) (export \"main\" 0))";
+const TOO_MANY: &[u8] =
+    b"(module 1 (func (fun () () ((unr i64))) (locals) (i64.const 1) (i64.const 0)) (export \"main\" 0))";
 
-const NOT_READ: &str =
-    "(module 1 (func (fun () () ((unr i64))) (locals) nop (i64.const 0)) (export \"main\" 0))";
+const NOT_READ: &[u8] =
+    b"(module 1 (func (fun () () ((unr i64))) (locals) nop (i64.const 0)) (export \"main\" 0))";
 
 const ROWS: [Row; 12] = [
     Row {

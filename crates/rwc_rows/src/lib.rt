@@ -4,6 +4,8 @@
 #[cfg(test)]
 mod build_rows;
 #[cfg(test)]
+mod dump_rows;
+#[cfg(test)]
 mod io_rows;
 #[cfg(test)]
 mod rows;

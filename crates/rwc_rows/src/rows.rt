@@ -4,8 +4,8 @@ use rw_io::{MemShelf, MemSink};
 use rwc::rwc;
 use std::alloc::{AllocError, Global};
 
-pub const SEVEN: &str =
-    "(module 1 (func (fun () () ((unr i64))) (locals) (i64.const 7) print (i64.const 0)) (export \"main\" 0))";
+pub const SEVEN: &[u8] =
+    b"(module 1 (func (fun () () ((unr i64))) (locals) (i64.const 7) print (i64.const 0)) (export \"main\" 0))";
 
 // The binary of `SEVEN`, with 16 and 16 pages, written by hand from the definition.
 pub const SEVEN_BINARY: [u8; 192] = [
@@ -52,7 +52,7 @@ pub const AMPLE: Plan = Plan {
 
 pub struct Row {
     pub words: &'static [&'static str],
-    pub text: &'static str,
+    pub text: &'static [u8],
     pub shelf: Plan,
     pub out: Plan,
     pub status: u8,
@@ -69,12 +69,9 @@ fn texts(alloc: Global, words: &[&str]) -> Result<Vec<String>, AllocError> {
     Ok(texts)
 }
 
-fn shelf_of(alloc: Global, row: &Row) -> Result<MemShelf, AllocError> {
+fn shelf_of(alloc: Global, row: &Row, text: &[u8]) -> Result<MemShelf, AllocError> {
     let mut files = Vec::new(alloc);
-    files.push((
-        String::from_str(alloc, "p.rich")?,
-        row.text.as_bytes().to_vec(alloc)?,
-    ))?;
+    files.push((String::from_str(alloc, "p.rich")?, text.to_vec(alloc)?))?;
     let fails = row.shelf.fails.to_vec(alloc)?;
     Ok(MemShelf::new(alloc, files, fails, row.shelf.most))
 }
@@ -93,7 +90,12 @@ fn holds(sink: &MemSink, want: &str) -> bool {
 
 /// Whether the call does what the row says.
 pub fn is_as_told(alloc: Global, row: &Row) -> Result<bool, AllocError> {
-    let mut shelf = shelf_of(alloc, row)?;
+    is_as_told_over(alloc, row, row.text)
+}
+
+/// Whether the call does what the row says, over this text in place of the row's own.
+pub fn is_as_told_over(alloc: Global, row: &Row, text: &[u8]) -> Result<bool, AllocError> {
+    let mut shelf = shelf_of(alloc, row, text)?;
     let mut out = MemSink::new(alloc, row.out.fails.to_vec(alloc)?, row.out.most);
     let mut err = MemSink::new(alloc, Vec::new(alloc), 99);
     let words = texts(alloc, row.words)?;
