@@ -1,2 +1,3 @@
 pub mod ContentLengths
 pub mod SameBytes
+pub mod RoundTrips
