@@ -9,15 +9,9 @@ use Rattle.wasm_ast.specs.declared.modules.LocalRun.{LocalRun}
 use Rattle.machine_steps.specs.declared.End.TheVariants.{Value, Trap}
 use Rattle.machine_steps.specs.declared.Trap as machine
 use Rattle.machine_steps.specs.declared.Trap.TheVariants.{Exhausted, Index, Unreachable}
-use Rattle.machine_steps.specs.Steps.{Turn, Went, Ended, NoStep}
+use Rattle.machine_steps.specs.Steps.{Turn, Went, Ended, NoStep, with_top}
 use Rattle.wasm_meaning.specs.Configurations.{Level, Here, Bottom, TheEnd, ThenCall, Store, Config, Event, Print}
 use Rattle.wasm_meaning.specs.Environments.{Environment, Function}
-
--- so many operands from the top, and what follows where they are there
-abbrev pub with_top : {X : Type 0} → ℕ → List ℕ → (List ℕ → List ℕ → Turn Event X) → Turn Event X
-with_top zero operands then = then [] operands
-with_top (suc n) [] then = NoStep
-with_top (suc n) (v ∷ operands) then = with_top n operands (λ vs beneath. then (v ∷ vs) beneath)
 
 -- what follows a look-up that found something
 abbrev pub with_found : {X Y : Type 0} → Option X → (X → Turn Event Y) → Turn Event Y
