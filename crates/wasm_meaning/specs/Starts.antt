@@ -1,4 +1,5 @@
--- How a module begins to run (WebAssembly Core Specification 1.0, section 4.5).
+-- How a module begins to run: its instantiation, and the invocation of its exported `main` (WebAssembly Core Specification 1.0,
+-- sections 4.5.4 and 4.5.5).
 use Rattle.std.specs.Prelude.{ℕ, ◌+◌, ◌*◌, List, [], ◌∷◌, ◌++◌, Option, Some, None, length, map, take, drop, replicate, codes, slice_get}
 use Rattle.wasm_ast.specs.declared.instructions.WInstr.{WInstr, out-WInstr}
 use Rattle.wasm_ast.specs.declared.instructions.WInstr.TheOpen.{WInstr-F}
@@ -13,7 +14,7 @@ use Rattle.wasm_meaning.specs.Configurations.{TheEnd, Store, Config, Event}
 use Rattle.wasm_meaning.specs.Environments.{environment_of, exported, is_func}
 use Rattle.wasm_meaning.specs.Steps.{enter, step, prints}
 
--- the value of a constant expression over the globals before it (4.5.3)
+-- the value of a constant expression over these globals (4.4.8)
 abbrev pub value_in : List ℕ → WInstr-F WInstr → ℕ
 value_in globals (WInstr-F.I32Const n) = n
 value_in globals (WInstr-F.I64Const n) = n
