@@ -17,11 +17,10 @@ pub record Level : Type 0 where
   pub beneath : List ℕ
   pub rest : List WInstr
 
--- a call that runs: its function, its first argument or 0, its locals, the operands, the top one first, and what is left of
--- the list, and the open lists, the innermost first (4.2.12, frames)
+-- a call that runs: its function, its locals, the operands, the top one first, what is left of the list, and the open lists,
+-- the innermost first (4.2.12, frames)
 pub record Here : Type 0 where
   pub function : ℕ
-  pub argument : ℕ
   pub locals : List ℕ
   pub operands : List ℕ
   pub rest : List WInstr

@@ -21,7 +21,7 @@ value_in globals (WInstr-F.I64Const n) = n
 value_in globals (WInstr-F.GlobalGet n) = elim (slice_get globals n) [ None ↦ 0 | Some v ↦ v ]
 value_in globals _ = 0
 
--- this project's modules import no global, so that an initial value is a constant
+-- the first values of the globals, which are constants: this project's modules import no global
 abbrev pub first_globals : List WGlobal → List ℕ
 first_globals gs = map (λ g. value_in [] (out-WInstr g.init)) gs
 

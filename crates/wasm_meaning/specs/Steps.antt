@@ -32,7 +32,7 @@ abbrev pub first_or_zero : List ℕ → ℕ
 first_or_zero [] = 0
 first_or_zero (v ∷ vs) = v
 
--- why `unreachable` was reached, by the number in the global that tells it
+-- why `unreachable` was reached, by the number in the global that tells it; this project's own
 abbrev pub reason : ℕ → machine.Trap
 reason (suc zero) = Exhausted
 reason (suc (suc zero)) = Index
@@ -50,7 +50,6 @@ abbrev pub enter : ℕ → Function → List ℕ → List Here → Bottom → St
 enter n f arguments callers bottom store = with_found f.code (λ code. Went [] (record {
   here = record {
     function = n;
-    argument = first_or_zero (reverse arguments);
     locals = reverse arguments ++ replicate (declared code.locals) 0;
     operands = [];
     rest = code.body;
