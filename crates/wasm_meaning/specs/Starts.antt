@@ -10,7 +10,7 @@ use Rattle.wasm_ast.specs.declared.modules.WGlobal.{WGlobal}
 use Rattle.wasm_ast.specs.declared.modules.WModule.{WModule}
 use Rattle.machine_steps.specs.Steps.{Stuck, Turn, Went, reached}
 use Rattle.machine_steps.specs.Agreement.{Seen, seen}
-use Rattle.wasm_meaning.specs.Configurations.{TheEnd, Store, Config, Event}
+use Rattle.wasm_meaning.specs.Configurations.{Bottom, TheEnd, ThenCall, Store, Config, Event}
 use Rattle.wasm_meaning.specs.Environments.{environment_of, exported, is_func}
 use Rattle.wasm_meaning.specs.Steps.{enter, step, prints}
 
@@ -59,12 +59,20 @@ abbrev pub seen_after : WModule → ℕ → Turn Event Config → Seen
 seen_after m n (Went es c) = seen prints (reached (step (environment_of m)) n c)
 seen_after m n _ = record { printed = []; stand = Stuck }
 
--- what is seen of a module after so many steps of its exported `main`, which takes nothing
+-- what is seen of a module after so many steps of a function that takes nothing, and of what follows it
+abbrev pub seen_of : WModule → ℕ → ℕ → Bottom → Seen
+seen_of m n called bottom = elim (slice_get (environment_of m).functions called) [
+  | None ↦ record { printed = []; stand = Stuck }
+  | Some f ↦ seen_after m n (enter called f [] [] bottom (first_store m))
+]
+
+-- what is seen of a module after so many steps: of its start function, where it has one, and then of its exported `main`, which
+-- takes nothing
 abbrev pub wasm : WModule → ℕ → Seen
 wasm m n = elim (exported is_func (codes "main") m.exports) [
   | None ↦ record { printed = []; stand = Stuck }
-  | Some main ↦ elim (slice_get (environment_of m).functions main) [
-    | None ↦ record { printed = []; stand = Stuck }
-    | Some f ↦ seen_after m n (enter main f [] [] TheEnd (first_store m))
+  | Some main ↦ elim m.start [
+    | None ↦ seen_of m n main TheEnd
+    | Some start ↦ seen_of m n start (ThenCall main)
   ]
 ]
