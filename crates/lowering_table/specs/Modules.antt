@@ -106,9 +106,13 @@ start_type = record { params = []; result = Some I64 }
 abbrev pub low_type : LinkedFunc → FuncType
 low_type f = record { params = replicate (words_of f.ty.binders f.ty.params) I64; result = None }
 
+-- the types of the print, the allocators, the linked functions and the exported main
+abbrev pub used_types : Program → List FuncType
+used_types p = print_type ∷ alloc_type ∷ (map low_type p.funcs ++ start_type ∷ [])
+
 -- the types of all functions, by first use
 abbrev pub low_types : Program → List FuncType
-low_types p = first_uses [] (print_type ∷ alloc_type ∷ (map low_type p.funcs ++ start_type ∷ []))
+low_types p = first_uses [] (used_types p)
 
 -- a global of 64 bits that can be set
 abbrev pub word_global : ℕ → WGlobal
