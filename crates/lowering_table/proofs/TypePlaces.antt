@@ -1,5 +1,5 @@
 -- Where a type stands in the list of first uses: at its index, and there alone.
-use Rattle.std.proofs.Common.{◌≡◌, ◌∙◌, ℕ, zero, suc, Bool, true, false, List, [], ◌∷◌, ◌++◌, Some, ◌⊎◌, inl, inr, ⊎_elim, refl, ap, sym, subst, arith}
+use Rattle.std.proofs.Common.{◌≡◌, ◌∙◌, ℕ, zero, suc, Bool, true, false, List, [], ◌∷◌, ◌++◌, Some, length, ◌⊎◌, inl, inr, ⊎_elim, refl, ap, sym, subst, arith}
 use Rattle.std.specs.Prelude.{slice_get, if◌then◌else◌}
 use Rattle.std.proofs.lemmas.Bool.{cond_both}
 use Rattle.std.proofs.lemmas.Option.{same_Some, none-some}
@@ -43,12 +43,12 @@ pub has_on : (t v : FuncType) (us : List FuncType) → Has us t → Has (us ++ v
 has_on t v [] h = absurd (none-some t h)
 has_on t v (u ∷ us) h = has_by (is_same_type t u) t u (us ++ v ∷ []) refl (λ is. has_on t v us (has_on_by (is_same_type t u) t u us h is))
 
--- what stands in a list with one more at its end
-pushed_cases : (t x : FuncType) (us : List FuncType) (i : ℕ) → slice_get (us ++ t ∷ []) i ≡ Some x → (slice_get us i ≡ Some x) ⊎ (t ≡ x)
-pushed_cases t x [] zero h = inr (same_Some t x h)
+-- what stands in a list with one more at its end, and where
+pub pushed_cases : (t x : FuncType) (us : List FuncType) (i : ℕ) → slice_get (us ++ t ∷ []) i ≡ Some x → (slice_get us i ≡ Some x) ⊎ ((i ≡ length us) × (t ≡ x))
+pushed_cases t x [] zero h = inr (refl, same_Some t x h)
 pushed_cases t x [] (suc i) h = absurd (none-some x h)
 pushed_cases t x (u ∷ us) zero h = inl h
-pushed_cases t x (u ∷ us) (suc i) h = pushed_cases t x us i h
+pushed_cases t x (u ∷ us) (suc i) h = ⊎_elim (λ at. inl at) (λ last. inr (ap (λ (n : ℕ). suc n) last.0, last.1)) (pushed_cases t x us i h)
 
 once_rest : (same : Bool) (x : FuncType) (us : List FuncType) (i : ℕ) → suc i ≡ index_by same x us → same ≡ false → i ≡ type_index x us
 once_rest true x us i h is = absurd cc
@@ -68,7 +68,7 @@ later_by : (same : Bool) (t x u : FuncType) (us : List FuncType) (i : ℕ) → i
 later_by true t x u us i is differs once h rest =
     ⊎_elim
     (λ stands. absurd (let place : suc i ≡ index_by true x us = subst (λ (b : Bool). suc i ≡ index_by b x us) is (once (suc i) stands) in omega (arith, place)))
-    (λ same. absurd (let both : true ≡ false = sym is ∙ ap (λ (y : FuncType). is_same_type y u) (sym same) ∙ differs in cc))
+    (λ last. absurd (let both : true ≡ false = sym is ∙ ap (λ (y : FuncType). is_same_type y u) (sym last.1) ∙ differs in cc))
     (pushed_cases t x us i h)
 later_by false t x u us i is differs once h rest = ap (λ (n : ℕ). suc n) (rest refl)
 
@@ -82,7 +82,7 @@ pushed_once t x (u ∷ us) new once (suc i) h =
     (λ is. pushed_once t x us parts.1 (λ k stands. once_rest (is_same_type x u) x us k (once (suc k) stands) is) i h)
 
 -- the list of first uses, by whether the next type is listed already
-uses_by : (listed ts : List FuncType) (t : FuncType) (P : List FuncType → Type 0) → (is_among t listed ≡ true → P (first_uses listed ts)) →
+pub uses_by : (listed ts : List FuncType) (t : FuncType) (P : List FuncType → Type 0) → (is_among t listed ≡ true → P (first_uses listed ts)) →
     (is_among t listed ≡ false → P (first_uses (listed ++ t ∷ []) ts)) → P (first_uses listed (t ∷ ts))
 uses_by listed ts t P old new = cond_both (is_among t listed) (first_uses listed ts) (first_uses (listed ++ t ∷ []) ts) P old new
 
@@ -111,7 +111,7 @@ stands_later : (x t : FuncType) (listed ts : List FuncType) → Stands ts x → 
 stands_later x t listed ts s = inr (suc s.0, s.1)
 
 stands_pushed : (x t : FuncType) (listed ts : List FuncType) → Stands (listed ++ t ∷ []) x → Stands listed x ⊎ Stands (t ∷ ts) x
-stands_pushed x t listed ts s = ⊎_elim (λ stands. inl (s.0, stands)) (λ same. inr (0, ap (λ (y : FuncType). Some y) same)) (pushed_cases t x listed s.0 s.1)
+stands_pushed x t listed ts s = ⊎_elim (λ stands. inl (s.0, stands)) (λ last. inr (0, ap (λ (y : FuncType). Some y) last.1)) (pushed_cases t x listed s.0 s.1)
 
 pub uses_stand : (listed ts : List FuncType) (x : FuncType) → Stands (first_uses listed ts) x → Stands listed x ⊎ Stands ts x
 uses_stand listed [] x s = inl s

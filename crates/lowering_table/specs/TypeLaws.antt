@@ -1,5 +1,5 @@
 -- What the types of a lowered module and their indices are. This project's own.
-use Rattle.std.specs.Prelude.{◌≡◌, ℕ, List, [], ◌∷◌, ◌++◌, Some, map, slice_get}
+use Rattle.std.specs.Prelude.{◌≡◌, ℕ, ◌<◌, List, [], ◌∷◌, ◌++◌, Some, map, slice_get}
 use Rattle.wasm_ast.specs.declared.types.FuncType.{FuncType}
 use Rattle.rw_program.specs.Programs.{Program}
 use Rattle.lowering_table.specs.declared.Pages.{Pages}
@@ -17,6 +17,11 @@ TypesAreListedOnce = (p : Program) (i : ℕ) (t : FuncType) → slice_get (low_t
 -- no type is listed that is not used
 abbrev pub ListedTypesAreUsed : Type 0
 ListedTypesAreUsed = (p : Program) (i : ℕ) (t : FuncType) → slice_get (low_types p) i ≡ Some t → (k : ℕ) × (slice_get (used_types p) k ≡ Some t)
+
+-- the types stand in the order of their first uses
+abbrev pub TypesAreInOrder : Type 0
+TypesAreInOrder = (p : Program) (i j : ℕ) (t u : FuncType) → slice_get (low_types p) i ≡ Some t → slice_get (low_types p) j ≡ Some u → i < j →
+    type_index t (used_types p) < type_index u (used_types p)
 
 -- the types of the module's own functions: the allocators, the linked functions and the exported main
 abbrev pub own_types : Program → List FuncType
