@@ -1,5 +1,6 @@
 -- The readers of the entries of sections read exactly what the grammar spells, within the profile (WebAssembly Core
--- Specification 1.0, section 5.5). What nests instructions is owed where expressions are read exactly.
+-- Specification 1.0, section 5.5). Readers of entries with instructions are exact where the
+-- reader of expressions is.
 use Rattle.std.specs.Prelude.{◌≡◌, ℕ, ◌+◌, ◌^◌, ◌<◌, ◌≤◌, List, length, sum_by}
 use Rattle.wasm_ast.specs.declared.instructions.WInstr.{WInstr}
 use Rattle.wasm_ast.specs.declared.modules.LocalRun.{LocalRun}
