@@ -8,7 +8,8 @@ use Rattle.wasm_grammar.specs.CanonicalModules.{preamble}
 use Rattle.wasm_reading.specs.declared.fault.DecodeError.{DecodeError}
 use Rattle.wasm_reading.specs.declared.fault.DecodeFault.TheVariants.{Truncated, CountMismatch, BadLength}
 use Rattle.wasm_reading.specs.Readers.{Input, Reader, and_then, ◌>>=◌, give, fail, byte_at, each_at, ended}
-use Rattle.wasm_reading.specs.ReadModules.{without_rest, empty_module, reading_of}
+use Rattle.wasm_grammar.specs.WorkedModules.{empty_module}
+use Rattle.wasm_reading.specs.ReadModules.{without_rest, reading_of}
 use Rattle.wasm_items.specs.LebStates.{LebState, rest_of_leb}
 use Rattle.wasm_items.specs.Residuals.{IsHungry, stop, no_memory}
 use Rattle.wasm_items.specs.Hunger.{hungry_then, hungry_here, hungry_byte, hungry_leb}
