@@ -10,10 +10,6 @@ use Rattle.wasm_encode.specs.declared.error.EncodeError.TheVariants.{TooLong}
 abbrev pub EarlierContentsFit : WModule → ℕ → Type 0
 EarlierContentsFit m id = (earlier : ℕ) → earlier < id → length (content_of earlier m) < 2 ^ 32
 
--- The content of each section has fewer than 2^32 bytes.
-abbrev pub EachContentFits : WModule → Type 0
-EachContentFits m = (id : ℕ) → length (content_of id m) < 2 ^ 32
-
 -- This section is the first one whose content has 2^32 bytes or more.
 abbrev pub IsFirstTooLong : WModule → ℕ → Type 0
 IsFirstTooLong m id = (2 ^ 32 ≤ length (content_of id m)) × EarlierContentsFit m id
