@@ -6,10 +6,10 @@ use Rattle.std.proofs.lemmas.Bool.Decides.{nat_tests}
 use Rattle.std.proofs.lemmas.Bool.{cond-true, cond-false}
 use Rattle.wasm_reading.specs.declared.fault.DecodeError.{DecodeError}
 use Rattle.wasm_reading.specs.declared.fault.DecodeFault.TheVariants.{BadLength}
-use Rattle.wasm_reading.specs.Readers.{Input, Reader, and_then, give, first_byte, is_at_end, within, ended, lesser_end}
+use Rattle.wasm_reading.specs.Readers.{IsWithin, Input, Reader, and_then, give, first_byte, is_at_end, within, ended, lesser_end}
 use Rattle.wasm_items.specs.Residuals.{Takes, IsHungry, stop, answered}
 use Rattle.wasm_items.specs.declared.progress.Progress.{Progress}
-use Rattle.wasm_codes.specs.Places.{IsBefore, IsWithin, TakesBefore, PushesBefore, AlikeWithin}
+use Rattle.wasm_codes.specs.Places.{IsBefore, TakesBefore, PushesBefore, AlikeWithin}
 use Rattle.wasm_codes.specs.Sizes.{left_at}
 
 not_at_end : (at : ℕ) (end : Option ℕ) (rest : List ℕ) → IsBefore at end → is_at_end (record { at = at; end = end; rest = rest }) ≡ false

@@ -1,7 +1,7 @@
 -- What readers make of a byte, or give, at a place; this project's own.
 use Rattle.std.specs.Prelude.{◌≡◌, ℕ, ◌+◌, ◌<◌, ◌≤◌, List, ◌∷◌, ◌⊎◌, Option, None, Some, Result, Ok, Err}
 use Rattle.wasm_reading.specs.declared.fault.DecodeError.{DecodeError}
-use Rattle.wasm_reading.specs.Readers.{Reader}
+use Rattle.wasm_reading.specs.Readers.{IsWithin, Reader}
 use Rattle.wasm_items.specs.declared.progress.Progress.{Progress}
 use Rattle.wasm_items.specs.Residuals.{stop, rest_behind, no_memory}
 
@@ -9,11 +9,6 @@ use Rattle.wasm_items.specs.Residuals.{stop, rest_behind, no_memory}
 abbrev pub IsBefore : ℕ → Option ℕ → Type 0
 IsBefore at None = Unit {0}
 IsBefore at (Some end) = at < end
-
--- the place stands at the declared end or before it
-abbrev pub IsWithin : ℕ → Option ℕ → Type 0
-IsWithin at None = Unit {0}
-IsWithin at (Some end) = at ≤ end
 
 -- At the place `at`, which stands before the declared end, the reader `old` takes the byte `b` and reads on as `new`.
 pub record TakesBefore {A : Type 0} (old : Reader A) (b at : ℕ) (new : Reader A) : Type 0 where

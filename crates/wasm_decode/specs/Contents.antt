@@ -116,10 +116,6 @@ abbrev pub rest_behind_codes : WModule → Option Content → Reader WModule
 rest_behind_codes m (Some state) = rest_of_content m state
 rest_behind_codes m None = give m
 
--- two readers read the same from the place `at` on
-pub record StartsAs (whole : Reader WModule) (at : ℕ) (reader : Reader WModule) : Type 0 where
-  pub same : (end : Option ℕ) (bs : List ℕ) → whole (record { at = at; end = end; rest = bs }) ≡ reader (record { at = at; end = end; rest = bs })
-
 -- the answer to a byte is what the residual `old` makes of it, where the module is `m` now, or want of memory
 abbrev pub PushesInto : Reader WModule → ℕ → ℕ → WModule → Result (Option Content) DecodeError → Type 0
 PushesInto old b at m (Ok (Some state)) = Takes old b at (rest_of_content m state)

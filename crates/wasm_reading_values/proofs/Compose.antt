@@ -6,8 +6,8 @@ use Rattle.std.proofs.lemmas.List.Elements.{All-tail}
 use Rattle.wasm_grammar.specs.GrammarValues.{Joined}
 use Rattle.wasm_reading.specs.declared.fault.DecodeError.{DecodeError}
 use Rattle.wasm_reading.specs.declared.fault.DecodeFault.{DecodeFault}
-use Rattle.wasm_reading.specs.Readers.{Input, Reader, and_then, ◌>>=◌, give, fail, here}
-use Rattle.wasm_reading_values.specs.Exactness.{AreBytes, IsBy, Took, HasRoom, ExactIn, Exact}
+use Rattle.wasm_reading.specs.Readers.{IsWithin, Input, Reader, and_then, ◌>>=◌, give, fail, here}
+use Rattle.wasm_reading_values.specs.Exactness.{AreBytes, Took, HasRoom, ExactIn, Exact}
 
 -- the bytes behind others
 pub bytes_behind : (front back : List ℕ) → AreBytes (front ++ back) → AreBytes back
@@ -64,7 +64,7 @@ second_took {input = input} {behind = behind} t =
     let sum : length t.front ≡ length t.holds.front + length t.holds.back = ap length t.holds.whole ∙ length-append t.holds.front t.holds.back in
     record { front = t.holds.back; holds = t.holds.second; whole = refl; place = omega (arith, t.place, sum); same_end = t.same_end }
 
-pub by_earlier : (end : Option ℕ) (at later : ℕ) → at ≤ later → IsBy end later → IsBy end at
+pub by_earlier : (end : Option ℕ) (at later : ℕ) → at ≤ later → IsWithin later end → IsWithin at end
 by_earlier None at later l h = tt
 by_earlier (Some end) at later l h = omega arith
 
@@ -138,7 +138,7 @@ followed_where {room} less {first = first} {First = First} next Next smaller k l
       let middle : Input = record { at = input.at + length u.holds.front; end = input.end; rest = u.holds.back ++ behind.rest } in
       let s = first_took u in
       let v = second_took u in
-      let early : IsBy input.end middle.at = by_earlier input.end middle.at behind.at (omega (arith, v.place)) (subst (λ (end : Option ℕ). IsBy end behind.at) t.same_end h) in
+      let early : IsWithin middle.at input.end = by_earlier input.end middle.at behind.at (omega (arith, v.place)) (subst (λ (end : Option ℕ). IsWithin behind.at end) t.same_end h) in
       let left = smaller a s.front middle.rest s.holds (subst (λ (bytes : List ℕ). HasRoom room bytes) s.whole space) in
       ap (λ r. and_then r next) (k.complete input middle a s early space) ∙ (l a s.front s.holds).complete middle behind b v h left;
 }
