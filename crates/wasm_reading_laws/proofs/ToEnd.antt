@@ -12,7 +12,7 @@ pub record ToEnd (most : ℕ) {A : Type 0} (read : Reader A) (Spells : A → Lis
   pub sound : (input behind : Input) (a : A) → AreBytes input.rest → length input.rest ≤ most → read input ≡ Ok (a, behind) → Spells a input.rest
   pub complete : (input : Input) (a : A) → input.end ≡ None → length input.rest ≤ most → Spells a input.rest → (behind : Input) × (read input ≡ Ok (a, behind))
 
--- the same bytes, told otherwise
+-- the same bytes by another relation that holds of them alike
 pub alike_to_end : {most : ℕ} {A : Type 0} {read : Reader A} {P Q : A → List ℕ → Type 0} → ToEnd most read P → ((a : A) (bytes : List ℕ) → P a bytes → Q a bytes) → ((a : A) (bytes : List ℕ) → Q a bytes → P a bytes) → ToEnd most read Q
 alike_to_end k f g = record {
   sound = λ input behind a h small e. f a input.rest (k.sound input behind a h small e);
