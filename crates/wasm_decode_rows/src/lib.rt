@@ -2,4 +2,6 @@
 #![tactic(auto)]
 
 #[cfg(test)]
+mod case_rows;
+#[cfg(test)]
 mod rows;
