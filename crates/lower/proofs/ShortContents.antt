@@ -17,8 +17,7 @@ use Rattle.wasm_ast.specs.declared.modules.ElemSeg.{ElemSeg}
 use Rattle.wasm_ast.specs.declared.modules.WGlobal.{WGlobal}
 use Rattle.wasm_grammar.specs.CanonicalTypes.{vector_bytes}
 use Rattle.wasm_grammar.specs.CanonicalInstructions.{immediate_bytes, instruction_bytes}
-use Rattle.wasm_grammar.specs.CanonicalModules.{global_bytes, element_bytes, function_bytes, code_bytes, segment_bytes, memory_content, global_content, element_content, code_content, data_content}
-use Rattle.wasm_spelling.specs.SpellingLaws.{HasShortContents}
+use Rattle.wasm_grammar.specs.CanonicalModules.{HasShortContents, global_bytes, element_bytes, function_bytes, code_bytes, segment_bytes, memory_content, global_content, element_content, code_content, data_content}
 use Rattle.wasm_spelling.proofs.KnownInstructions.{known_bytes, chosen}
 use Rattle.rw_types.specs.declared.instrs.Instr.{Instr, I64Const, Num, Print, Drop}
 use Rattle.rw_types.specs.declared.numbers.NumName.TheVariants.{I64Add}
