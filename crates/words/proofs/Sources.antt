@@ -3,6 +3,7 @@ use Rattle.std.proofs.Common.{◌≡◌, ℕ, ◌-◌, ◌<◌, Bool, true, fals
 use Rattle.std.proofs.lemmas.Bool.Decides.{nat_tests}
 use Rattle.std.proofs.lemmas.List.{take-append-drop, take_at, drop_at, length-append}
 use Rattle.std.proofs.lemmas.Slice.Eq.{bytes_eq-Decides}
+use Rattle.std.specs.Cmp.Derive.{both_true}
 use Rattle.std.specs.Prelude.{codes, IsTrue}
 use Rattle.std.specs.List.{list_any, list_all}
 use Rattle.std.specs.Option.{option_map_or}
@@ -12,25 +13,18 @@ use Rattle.rw_types.specs.Names.{IsName, is_name_byte}
 use Rattle.words.specs.Files.{after_last_slash, before_rich, module_name_of, is_module_name, is_plain_name, is_source_file}
 use Rattle.words.specs.Sources.{IsFolder, IsSourceFile, TellsSources, NamesModules}
 use Rattle.words.proofs.Slashes.{is_slash, no_slash}
+use Rattle.words.proofs.Splitting.{both}
 
 -- the extension of source files
 abbrev rich : List ℕ
 rich = codes ".rich"
-
-both : (a b : Bool) → (a && b) ≡ true → (a ≡ true) × (b ≡ true)
-both true b e = (refl, e)
-both false b e = absurd cc
-
-join : (a b : Bool) → a ≡ true → b ≡ true → (a && b) ≡ true
-join true b x y = y
-join false b x y = absurd cc
 
 -- the tests of a module's name
 name_passes : (name : List ℕ) → IsName name → is_module_name name ≡ true
 name_passes name n =
     let low : nat_lt 0 (length name) ≡ true = (let l = n.nonempty in grind (arith, nat_tests)) in
     let high : nat_le (length name) 64 ≡ true = (let l = n.short in grind (arith, nat_tests)) in
-    join (nat_lt 0 (length name) && nat_le (length name) 64) (list_all is_name_byte name) (join (nat_lt 0 (length name)) (nat_le (length name) 64) low high) n.each
+    both_true (both_true low high) n.each
 
 passed_is_name : (name : List ℕ) → is_module_name name ≡ true → IsName name
 passed_is_name name e =
@@ -152,7 +146,7 @@ passes : (file : List ℕ) → IsSourceFile file → is_source_file file ≡ tru
 passes file source =
     let end = source.name ++ rich in
     let some : 0 < length file = omega (arith, ap (λ (s : List ℕ). length s) source.is, length-append source.folder end, length-append source.name rich) in
-    join (is_plain_name file) (option_map_or is_module_name (module_name_of file) false) (plain file some source.undashed)
+    both_true (plain file some source.undashed)
     (ap (λ (found : Option (List ℕ)). option_map_or is_module_name found false) (names_modules file source) ∙ name_passes source.name source.named)
 
 pub tells_sources : TellsSources
