@@ -17,8 +17,7 @@ use Rattle.wasm_ast.specs.declared.modules.ElemSeg.{ElemSeg}
 use Rattle.wasm_ast.specs.declared.modules.WGlobal.{WGlobal}
 use Rattle.wasm_grammar.specs.CanonicalTypes.{vector_bytes}
 use Rattle.wasm_grammar.specs.CanonicalInstructions.{immediate_bytes, instruction_bytes}
-use Rattle.wasm_grammar.specs.CanonicalModules.{global_bytes, element_bytes, function_bytes, code_bytes, segment_bytes, memory_content, global_content, element_content, code_content, data_content}
-use Rattle.wasm_spelling.specs.SpellingLaws.{HasShortContents}
+use Rattle.wasm_grammar.specs.CanonicalModules.{HasShortContents, global_bytes, element_bytes, function_bytes, code_bytes, segment_bytes, memory_content, global_content, element_content, code_content, data_content}
 use Rattle.wasm_spelling.proofs.KnownInstructions.{known_bytes, chosen}
 use Rattle.rw_types.specs.declared.instrs.Instr.{Instr, I64Const, Num, Print, Drop}
 use Rattle.rw_types.specs.declared.numbers.NumName.TheVariants.{I64Add}
@@ -29,7 +28,7 @@ use Rattle.lowering_table.specs.declared.Pages.{Pages}
 use Rattle.lowering_table.specs.Allocators.{unreachable_code}
 use Rattle.lowering_table.specs.Frames.{room_of}
 use Rattle.lowering_table.specs.Rows.{row, rows}
-use Rattle.lowering_table.specs.Modules.{code_of, first_pages, most_pages, free_list_bytes, low_function, low_module, main_code, region_start, word_global}
+use Rattle.lowering_table.specs.Modules.{code_of, memory_pages, free_list_bytes, low_function, low_module, main_code, region_start, word_global}
 use Rattle.lower.specs.Laws.{LowHasShortContents}
 use Rattle.lower.specs.Lone.{lone_module}
 use Rattle.lower.proofs.Fitting.{low_first-length}
@@ -164,10 +163,8 @@ global-length g h = omega (arith, length-append (instruction_bytes g.init) (0x0B
 
 memories-short : (body : List Instr) (notes : List Note) (pages : Pages) → length (memory_content (lone_module (lone_func body notes) pages)) < 2 ^ 32
 memories-short body notes pages =
-    let least = unsigned_least 5 (first_pages pages) in
-    let most = unsigned_least 5 (most_pages pages) in
-    omega
-    (arith, length-append (0x01 ∷ (least ++ most)) [], length-append least most, unsigned-length 5 (first_pages pages), unsigned-length 5 (most_pages pages))
+    let count = unsigned_least 5 (memory_pages pages) in
+    omega (arith, length-append (0x01 ∷ (count ++ count)) [], length-append count count, unsigned-length 5 (memory_pages pages))
 
 globals-short : (body : List Instr) (notes : List Note) (pages : Pages) → length (global_content (lone_module (lone_func body notes) pages)) < 2 ^ 32
 globals-short body notes pages =

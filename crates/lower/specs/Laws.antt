@@ -2,7 +2,7 @@
 use Rattle.rw_program.specs.LonePrograms.{IsLoneProgram}
 use Rattle.rw_program.specs.Programs.{Program}
 use Rattle.wasm_grammar.specs.Profile.{IsInProfile}
-use Rattle.wasm_spelling.specs.SpellingLaws.{HasShortContents}
+use Rattle.wasm_grammar.specs.CanonicalModules.{HasShortContents}
 use Rattle.lowering_table.specs.declared.Pages.{Pages}
 use Rattle.lowering_table.specs.Modules.{ArePages, low_module}
 

@@ -2,7 +2,7 @@
 ghost use Rattle.std.specs.Prelude.{◌≡◌, [], ◌∷◌, ◌++◌, IfOk};
 ghost use Rattle.wasm_grammar.specs.Nesting.{ModuleNestsAtMost, nesting_limit};
 ghost use Rattle.wasm_grammar.specs.Profile.{IsInProfile};
-ghost use Rattle.wasm_spelling.specs.SpellingLaws.{HasShortContents};
+ghost use Rattle.wasm_grammar.specs.CanonicalModules.{HasShortContents};
 ghost use Rattle.machine_steps.specs.Agreement.{Alike};
 ghost use Rattle.machine_steps.specs.Ending.{BothEnd};
 ghost use Rattle.rich_steps.specs.Starts.{rich};

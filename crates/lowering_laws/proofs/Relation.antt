@@ -51,7 +51,7 @@ abbrev pub given : ℕ → rc.Config
 given v = record { calls = []; results = rc.Number v ∷ []; entries = []; globals = []; stores = record { linear = []; unrestricted = [] } }
 
 abbrev pub main_at : List ℕ → List WInstr → wc.Here
-main_at operands rest = record { function = 5; argument = 0; locals = 0 ∷ 0 ∷ []; operands = operands; rest = rest; levels = [] }
+main_at operands rest = record { function = 5; locals = 0 ∷ 0 ∷ []; operands = operands; rest = rest; levels = [] }
 
 abbrev pub ending : List WInstr
 ending = w.LocalGet 0 ∷ w.GlobalSet 2 ∷ []
@@ -82,7 +82,7 @@ module _ (body : List Instr) (notes : List Note) (pages : Pages) where
 
   abbrev pub inside_with : List ℕ → List ℕ → List ℕ → List WInstr → wc.Config
   inside_with globals locals operands rest = record {
-    here = record { function = 4; argument = 0; locals = locals; operands = operands; rest = rest; levels = [] };
+    here = record { function = 4; locals = locals; operands = operands; rest = rest; levels = [] };
     callers = main_at [] (w.GlobalGet 2 ∷ []) ∷ [];
     bottom = wc.TheEnd;
     store = record { memory = (first_store m).memory; table = (first_store m).table; globals = globals };

@@ -8,7 +8,8 @@ use Rattle.machine_steps.specs.Ending.{BothEnd}
 use Rattle.rich_steps.specs.Starts.{rich}
 use Rattle.wasm_meaning.specs.Starts.{wasm}
 
--- the lowered module of each program that is lowered so far prints and ends as the program does, both ways
+-- the lowered module of each program that is lowered so far prints and ends as the program does, both ways, unless it is
+-- exhausted
 abbrev pub LoweredBehaves : Type 0
 LoweredBehaves = (p : Program) (pages : Pages) → IsLoneProgram p → Alike (λ n. rich p n) (λ m. wasm (low_module p pages) m)
 

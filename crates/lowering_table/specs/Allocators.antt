@@ -1,4 +1,4 @@
--- The codes of the three allocator functions, which the table takes as they are named here. This project's own.
+-- The codes of the three allocator functions; the module's definition takes them as an argument. This project's own.
 use Rattle.std.specs.Prelude.{[], ◌∷◌}
 use Rattle.wasm_ast.specs.declared.instructions.WInstr.{Unreachable}
 use Rattle.wasm_ast.specs.declared.modules.Code.{Code}

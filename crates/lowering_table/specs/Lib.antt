@@ -3,3 +3,4 @@ pub mod Rows
 pub mod TypeUses
 pub mod Allocators
 pub mod Modules
+pub mod TypeLaws

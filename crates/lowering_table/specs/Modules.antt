@@ -27,12 +27,9 @@ pub record ArePages (pages : Pages) : Type 0 where
   pub linear : pages.lin ≤ 512
   pub unrestricted : pages.unr ≤ 512
 
--- the pages of the memory at the start, and at most
-abbrev pub first_pages : Pages → ℕ
-first_pages pages = pages.lin + pages.unr
-
-abbrev pub most_pages : Pages → ℕ
-most_pages pages = pages.lin + pages.unr
+-- the pages of the memory, at the start and at most
+abbrev pub memory_pages : Pages → ℕ
+memory_pages pages = pages.lin + pages.unr
 
 -- the address at which the unrestricted region begins
 abbrev pub region_start : Pages → ℕ
@@ -109,9 +106,13 @@ start_type = record { params = []; result = Some I64 }
 abbrev pub low_type : LinkedFunc → FuncType
 low_type f = record { params = replicate (words_of f.ty.binders f.ty.params) I64; result = None }
 
+-- the types of the print, the allocators, the linked functions and the exported main
+abbrev pub used_types : Program → List FuncType
+used_types p = print_type ∷ alloc_type ∷ (map low_type p.funcs ++ start_type ∷ [])
+
 -- the types of all functions, by first use
 abbrev pub low_types : Program → List FuncType
-low_types p = first_uses [] (print_type ∷ alloc_type ∷ (map low_type p.funcs ++ start_type ∷ []))
+low_types p = first_uses [] (used_types p)
 
 -- a global of 64 bits that can be set
 abbrev pub word_global : ℕ → WGlobal
@@ -155,7 +156,7 @@ low_module_with codes_of p pages =
       funcs = type_index alloc_type types ∷ type_index print_type types ∷ type_index alloc_type types
           ∷ (map (λ f. type_index (low_type f) types) p.funcs ++ type_index start_type types ∷ []);
       tables = record { min = length p.funcs; max = Some (length p.funcs) } ∷ [];
-      memories = record { min = first_pages pages; max = Some (most_pages pages) } ∷ [];
+      memories = record { min = memory_pages pages; max = Some (memory_pages pages) } ∷ [];
       globals = low_globals p pages;
       exports = low_exports p;
       start = None;

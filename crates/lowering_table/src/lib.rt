@@ -1,6 +1,8 @@
 //! The lowering table: the WebAssembly module that a linked program is lowered to, an equation for each
-//! instruction. It is definitions, and the page counts that they are given.
+//! instruction. It is definitions, the page counts that they are given, and a law of its types.
 #![tactic(auto)]
+
+ghost use Rattle.lowering_table.specs.TypeLaws.{FunctionsHaveTheirTypes, ListedTypesAreUsed, TypesAreInOrder, TypesAreListedOnce, UsedTypesAreListed};
 
 /// How many pages of 65,536 bytes the memory of a lowered program has: 1 to 512 for the linear part, and 0 to 512
 /// for the unrestricted region; this project's own.
@@ -9,3 +11,14 @@ pub struct Pages {
     pub lin: u32,
     pub unr: u32,
 }
+
+/// A law: of any program, each function type that is used stands in the lowered module's types at its index and nowhere
+/// else, no other type is listed, they stand in the order of their first uses, and the type indices of the module's
+/// functions lead to their types.
+pub fn types_are_indexed()
+    ensures listed { UsedTypesAreListed }
+    ensures once { TypesAreListedOnce }
+    ensures used { ListedTypesAreUsed }
+    ensures order { TypesAreInOrder }
+    ensures functions { FunctionsHaveTheirTypes }
+{}

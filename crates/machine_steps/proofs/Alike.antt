@@ -6,7 +6,7 @@ use Rattle.std.proofs.lemmas.Grind.{flat_map-append}
 use Rattle.machine_steps.specs.declared.End.{End}
 use Rattle.machine_steps.specs.Steps.{Turn, Went, Ended, NoStep, Going, Over, Reached, onward, reached_by, reached}
 use Rattle.machine_steps.specs.Agreement.{IsExhausted, IsSettled, IsPrefix, Seen, seen, Alike}
-use Rattle.machine_steps.specs.Simulations.{Follows, GaveUp, Throughout}
+use Rattle.machine_steps.specs.Simulations.{Follows, Exhausts, Throughout}
 use Rattle.machine_steps.proofs.Follow.{follows}
 
 module _ {E A : Type 0} (step : A → Turn E A) where
@@ -40,8 +40,8 @@ same_seen s t p q = λ i. record { printed = p i; stand = q i }
 module _ {D E A B : Type 0} (Fits Meets : List D → List E → Type 0) (Holds : List E → B → Type 0)
     (f : A → Turn D A) (g : B → Turn E B) (R : List D → A → List E → B → Type 0) (size : A → ℕ)
     (source : D → List ℕ) (target : E → List ℕ) (prints : (ds : List D) (es : List E) → Fits ds es → flat_map target es ≡ flat_map source ds) where
-  gave_up : (n : ℕ) (a : A) (t : Reached E B) → GaveUp Fits Meets Holds f g R size [] [] n a t → IsPrefix (seen target t).printed (seen source (reached f n a)).printed
-  gave_up n a t h =
+  exhausts : (n : ℕ) (a : A) (t : Reached E B) → Exhausts Fits Meets Holds f g R size [] [] n a t → IsPrefix (seen target t).printed (seen source (reached f n a)).printed
+  exhausts n a t h =
       let r = said_first f h.earlier n h.before a in
       let said = (reached f h.earlier a).said in (
         flat_map source r.0,
@@ -60,7 +60,7 @@ module _ {D E A B : Type 0} (Fits Meets : List D → List E → Type 0) (Holds :
             h.0,
             ⊎_elim
                 (λ k. inl (same_seen (seen target (reached g h.0 b)) (seen source (reached f n a)) (prints (reached f n a).said (reached g h.0 b).said k.fits) k.stand))
-                (λ k. inr (k.exhausted, gave_up n a (reached g h.0 b) k))
+                (λ k. inr (k.exhausted, exhausts n a (reached g h.0 b) k))
                 h.1,
           )
 

@@ -1,4 +1,4 @@
--- A target that answers each step of its source, and never gives up in its place, keeps to it exactly; what has ended is over
+-- A target that answers each step of its source, and is never exhausted instead, keeps to it exactly; what has ended is over
 -- for good, so that neither is ever stuck or exhausted where the source ends.
 use Rattle.std.proofs.Common.{◌≡◌, ℕ, zero, suc, ◌+◌, List, [], ◌++◌, ◌⊎◌, inl, inr, refl, sym, ap, ◌∙◌, subst, ⊎_elim}
 use Rattle.std.specs.Prelude.{ℤ}

@@ -7,7 +7,7 @@ use Rattle.machine_steps.specs.declared.End.TheVariants.{Trap}
 use Rattle.machine_steps.specs.declared.Trap.TheVariants.{Exhausted}
 use Rattle.machine_steps.specs.Steps.{Turn, Went, Ended, NoStep, Stand, Going, Over, Stuck, Reached, onward, going, reached_by, reached}
 use Rattle.machine_steps.specs.Agreement.{IsSettled}
-use Rattle.machine_steps.specs.Simulations.{Comes, Within, Moves, Stops, Ends, Answers, Follows, Matches, Keeps, GaveUp, Throughout}
+use Rattle.machine_steps.specs.Simulations.{Comes, Within, Moves, Stops, Ends, Answers, Follows, Matches, Keeps, Exhausts, Throughout}
 
 -- what is on the way, from how it stands
 stands_going : {E A : Type 0} (r : Reached E A) → r.stand ≡ Going → r ≡ going r.said r.at
@@ -76,14 +76,14 @@ module _ {D E A B : Type 0} (Fits Meets : List D → List E → Type 0) (Holds :
   abbrev TheKeeps : List D → List E → Reached D A → Reached E B → Type 0
   TheKeeps = Keeps Fits Meets Holds f g R size
 
-  abbrev TheGaveUp : List D → List E → ℕ → A → Reached E B → Type 0
-  TheGaveUp = GaveUp Fits Meets Holds f g R size
+  abbrev TheExhausts : List D → List E → ℕ → A → Reached E B → Type 0
+  TheExhausts = Exhausts Fits Meets Holds f g R size
 
   abbrev Back : List D → List E → ℕ → A → B → Type 0
   Back ds es m a b = (n : ℕ) × TheMatches ds es (reached f n a) (reached g m b)
 
   abbrev Forth : List D → List E → ℕ → A → B → Type 0
-  Forth ds es n a b = (m : ℕ) × (TheKeeps ds es (reached f n a) (reached g m b) ⊎ TheGaveUp ds es n a (reached g m b))
+  Forth ds es n a b = (m : ℕ) × (TheKeeps ds es (reached f n a) (reached g m b) ⊎ TheExhausts ds es n a (reached g m b))
 
   fits_on : (ds ds' : List D) (es es' : List E) (P : List D → List E → Type 0) (xs : List D) (ys : List E) → P ((ds ++ ds') ++ xs) ((es ++ es') ++ ys) → P (ds ++ (ds' ++ xs)) (es ++ (es' ++ ys))
   fits_on ds ds' es es' P xs ys h =
@@ -207,12 +207,12 @@ module _ {D E A B : Type 0} (Fits Meets : List D → List E → Type 0) (Holds :
   forth_exhausts : (ds : List D) (es : List E) (n : ℕ) (a : A) (b : B) → TheStops ds ds es (Trap Exhausted) b → Forth ds es n a b
   forth_exhausts ds es n a b h = (
     h.steps + suc zero,
-    inr (subst (TheGaveUp ds es n a) (sym (stopped h zero (h.steps + suc zero) refl))
+    inr (subst (TheExhausts ds es n a) (sym (stopped h zero (h.steps + suc zero) refl))
         (record { exhausted = tt; earlier = zero; before = omega arith; fits = no_more ds (es ++ (h.said ++ h.last)) h.fits })),
   )
 
-  gave_up_on : (ds ds' : List D) (es es' : List E) (n : ℕ) (a a' : A) (t : Reached E B) → f a ≡ Went ds' a' → TheGaveUp (ds ++ ds') (es ++ es') n a' t → TheGaveUp ds es (suc n) a (onward es' t)
-  gave_up_on ds ds' es es' n a a' t fa h = record {
+  exhausts_on : (ds ds' : List D) (es es' : List E) (n : ℕ) (a a' : A) (t : Reached E B) → f a ≡ Went ds' a' → TheExhausts (ds ++ ds') (es ++ es') n a' t → TheExhausts ds es (suc n) a (onward es' t)
+  exhausts_on ds ds' es es' n a a' t fa h = record {
     exhausted = h.exhausted;
     earlier = suc h.earlier;
     before = omega (arith, h.before);
@@ -245,7 +245,7 @@ module _ {D E A B : Type 0} (Fits Meets : List D → List E → Type 0) (Holds :
         h.steps + r.0,
         ⊎_elim
             (λ k. inl (keeps_moves n r.0 fa h k))
-            (λ k. inr (subst (TheGaveUp ds es (suc n) a) (sym (comes_later g (h.steps + r.0) r.0 refl h.comes)) (gave_up_on ds ds' es h.said n a a' (reached g r.0 h.to) fa k)))
+            (λ k. inr (subst (TheExhausts ds es (suc n) a) (sym (comes_later g (h.steps + r.0) r.0 refl h.comes)) (exhausts_on ds ds' es h.said n a a' (reached g r.0 h.to) fa k)))
             r.1,
       )
   forth_turn ds es n a b (Ended ds' e a') s fa again h = (h.stops.steps + suc zero, inl (keeps_ends n fa h))

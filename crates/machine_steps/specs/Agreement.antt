@@ -5,7 +5,7 @@ use Rattle.machine_steps.specs.declared.End.TheVariants.{Trap}
 use Rattle.machine_steps.specs.declared.Trap.TheVariants.{Exhausted}
 use Rattle.machine_steps.specs.Steps.{Stand, Going, Over, Reached}
 
--- the run gave up for want of room
+-- the run is over for want of room
 abbrev pub IsExhausted : Stand → Type 0
 IsExhausted (Over (Trap Exhausted)) = Unit {0}
 IsExhausted _ = ⊥

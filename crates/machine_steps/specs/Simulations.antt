@@ -57,7 +57,7 @@ module _ {D E A B : Type 0} (Fits Meets : List D → List E → Type 0) (Holds :
     pub fits : (ds : List D) (a : A) (es : List E) (b : B) → R ds a es b → Fits ds es × Holds es b
     pub answers : (ds : List D) (a : A) (es : List E) (b : B) → R ds a es b → Answers ds es (f a) (size a) b ⊎ Stops ds ds es (Trap Exhausted) b
 
-  -- each step from related histories and states is answered, and the target never gives up in its place
+  -- each step from related histories and states is answered, and the target is never exhausted instead
   pub record Answered : Type 0 where
     pub fits : (ds : List D) (a : A) (es : List E) (b : B) → R ds a es b → Fits ds es × Holds es b
     pub answers : (ds : List D) (a : A) (es : List E) (b : B) → R ds a es b → Answers ds es (f a) (size a) b
@@ -74,7 +74,7 @@ module _ {D E A B : Type 0} (Fits Meets : List D → List E → Type 0) (Holds :
     pub stand : t.stand ≡ s.stand
 
   -- the target is exhausted, and fits what the source had said by n steps or before
-  pub record GaveUp (ds : List D) (es : List E) (n : ℕ) (a : A) (t : Reached E B) : Type 0 where
+  pub record Exhausts (ds : List D) (es : List E) (n : ℕ) (a : A) (t : Reached E B) : Type 0 where
     pub exhausted : IsExhausted t.stand
     pub earlier : ℕ
     pub before : earlier ≤ n
@@ -82,5 +82,5 @@ module _ {D E A B : Type 0} (Fits Meets : List D → List E → Type 0) (Holds :
 
   -- from related histories and states, after any number of steps of either
   pub record Throughout (ds : List D) (es : List E) (a : A) (b : B) : Type 0 where
-    pub forth : (n : ℕ) → (m : ℕ) × (Keeps ds es (reached f n a) (reached g m b) ⊎ GaveUp ds es n a (reached g m b))
+    pub forth : (n : ℕ) → (m : ℕ) × (Keeps ds es (reached f n a) (reached g m b) ⊎ Exhausts ds es n a (reached g m b))
     pub back : (m : ℕ) → (n : ℕ) × Matches ds es (reached f n a) (reached g m b)

@@ -1,5 +1,5 @@
 -- A machine that makes steps and says events, and what is reached after so many steps. This project's own.
-use Rattle.std.specs.Prelude.{ℕ, zero, suc, List, [], ◌++◌}
+use Rattle.std.specs.Prelude.{ℕ, zero, suc, List, [], ◌∷◌, ◌++◌}
 use Rattle.machine_steps.specs.declared.End.{End}
 
 -- one step: to another state, or to an end and the state there, with what is said on the way; or there is none
@@ -39,12 +39,8 @@ abbrev pub reached : {E A : Type 0} → (A → Turn E A) → ℕ → A → Reach
 reached step zero a = going [] a
 reached step (suc n) a = reached_by (step a) a (reached step n)
 
--- how many steps are made, of so many
-abbrev pub made_by : {E A : Type 0} → Turn E A → (A → ℕ) → ℕ
-made_by (Went es b) rest = suc (rest b)
-made_by (Ended es e b) rest = suc zero
-made_by NoStep rest = zero
-
-abbrev pub made : {E A : Type 0} → (A → Turn E A) → ℕ → A → ℕ
-made step zero a = zero
-made step (suc n) a = made_by (step a) (made step n)
+-- so many from the top of a list, and what follows where they are there
+abbrev pub with_top : {V E A : Type 0} → ℕ → List V → (List V → List V → Turn E A) → Turn E A
+with_top zero vs then = then [] vs
+with_top (suc n) [] then = NoStep
+with_top (suc n) (v ∷ vs) then = with_top n vs (λ taken beneath. then (v ∷ taken) beneath)

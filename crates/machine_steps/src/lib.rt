@@ -77,8 +77,8 @@ pub fn follows_alike<S: Simulation>()
         → Alike (λ n. seen source (reached S.source n a)) (λ m. seen target (reached S.target m b)) }
 {}
 
-/// A law: where each step of the source is answered, and the target never gives up in its place, for any number of steps of
-/// the source there is a number of steps of the target after which the histories fit and both stand alike.
+/// A law: where each step of the source is answered, and the target is never exhausted instead, for any number of steps of the
+/// source there is a number of steps of the target after which the histories fit and both stand alike.
 pub fn answered_throughout<S: Simulation>()
     ensures { Answered S.fits S.meets S.holds S.source S.target S.related S.size → (a : S.Source) (b : S.Target) → S.related [] a [] b → (n : ℕ)
         → (m : ℕ) × Keeps S.fits S.meets S.holds S.source S.target S.related S.size [] [] (reached S.source n a) (reached S.target m b) }

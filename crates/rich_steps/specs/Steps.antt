@@ -1,19 +1,13 @@
 -- One step of a linked program that runs: an instruction, or the leaving of a list at its end. An instruction that has no
 -- case here yet has no step. This project's own.
-use Rattle.std.specs.Prelude.{ℕ, zero, suc, ◌+◌, ◌^◌, ◌%◌, List, [], ◌∷◌, ◌++◌, Option, Some, None, length, reverse, slice_get}
+use Rattle.std.specs.Prelude.{ℕ, ◌+◌, ◌^◌, ◌%◌, List, [], ◌∷◌, ◌++◌, Option, Some, None, length, reverse, slice_get}
 use Rattle.std.specs.Int.{cast_signed, w64}
 use Rattle.rw_types.specs.declared.instrs.Instr as i
 use Rattle.rw_types.specs.declared.numbers.NumName.TheVariants.{I64Add}
 use Rattle.rw_program.specs.declared.linked.LinkedFunc.{LinkedFunc}
 use Rattle.machine_steps.specs.declared.End.TheVariants.{Value}
-use Rattle.machine_steps.specs.Steps.{Turn, Went, Ended, NoStep}
+use Rattle.machine_steps.specs.Steps.{Turn, Went, Ended, NoStep, with_top}
 use Rattle.rich_steps.specs.Configurations.{Val, Number, Empty, Level, Here, Entry, CallOf, Config, Event, Print}
-
--- so many operands from the top, and what follows where they are there
-abbrev pub with_top : ℕ → List Val → (List Val → List Val → Turn Event Config) → Turn Event Config
-with_top zero operands then = then [] operands
-with_top (suc n) [] then = NoStep
-with_top (suc n) (v ∷ operands) then = with_top n operands (λ vs beneath. then (v ∷ vs) beneath)
 
 -- the top operand, where it is a number
 abbrev pub with_number : List Val → (ℕ → List Val → Turn Event Config) → Turn Event Config

@@ -5,7 +5,7 @@ use Rattle.std.specs.declared.result.Result.{Result}
 use Rattle.std.specs.Option.{option_map}
 use Rattle.std.specs.Io.KnownBytes.{append_known}
 use Rattle.wasm_ast.specs.declared.modules.WModule.{WModule}
-use Rattle.wasm_grammar.specs.CanonicalModules.{module_bytes}
+use Rattle.wasm_grammar.specs.CanonicalModules.{HasShortContents, module_bytes}
 use Rattle.wasm_grammar.specs.GrammarModules.{SpellsModule}
 use Rattle.rw_types.specs.declared.modules.Module.{Module}
 use Rattle.rw_text.specs.Spells.{Spells}
@@ -25,7 +25,6 @@ use Rattle.rw_program.specs.Programs.{Program}
 use Rattle.lowering_table.specs.declared.Pages.{Pages}
 use Rattle.lowering_table.specs.Modules.{ArePages, low_module}
 use Rattle.lower.proofs.ShortContents.{low_has_short_contents}
-use Rattle.wasm_spelling.specs.SpellingLaws.{HasShortContents}
 use Rattle.rw_io.specs.Files.{NamedFile, content_of}
 use Rattle.rw_io.specs.States.{ShelfState, SinkState}
 use Rattle.rwc.specs.Acts.{Act, Seen, after_acts, seen_of}

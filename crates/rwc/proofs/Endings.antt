@@ -122,4 +122,4 @@ append_nothing (Some xs) = ap (λ (b : List ℕ). Some b) (sym (append-nil xs))
 
 -- no line is told
 pub tells_nothing : (state : SinkState) (status result : ℕ) → result ≡ status → Tells [] status state state result
-tells_nothing state status result same = record { count = 0; put = append_nothing state.bytes; same = inl same; whole = inl (lit≤ tt) }
+tells_nothing state status result same = record { count = 0; put = append_nothing state.bytes; same = inl same; changed = inl same; whole = inl (lit≤ tt) }

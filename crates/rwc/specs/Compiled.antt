@@ -3,7 +3,7 @@ use Rattle.std.specs.Prelude.{◌≡◌, ℕ, List, codes, None, Some}
 use Rattle.std.specs.declared.result.Result.{Result}
 use Rattle.std.specs.declared.result.Result.TheVariants.{Ok, Err}
 use Rattle.wasm_ast.specs.declared.modules.WModule.{WModule}
-use Rattle.wasm_grammar.specs.CanonicalModules.{module_bytes}
+use Rattle.wasm_grammar.specs.CanonicalModules.{HasShortContents, module_bytes}
 use Rattle.wasm_grammar.specs.GrammarModules.{SpellsModule}
 use Rattle.rw_types.specs.declared.modules.Module.{Module}
 use Rattle.rw_text.specs.Spells.{Spells, SpellsNone}
@@ -15,7 +15,7 @@ use Rattle.rw_program.specs.Programs.{Program}
 use Rattle.rw_program.specs.Linking.{program_of}
 use Rattle.lowering_table.specs.declared.Pages.{Pages}
 use Rattle.lowering_table.specs.Modules.{low_module}
-use Rattle.wasm_encode.specs.Contents.{EachContentFits, IsFirstTooLong}
+use Rattle.wasm_encode.specs.Contents.{IsFirstTooLong}
 use Rattle.rwc.specs.Lines.{text_line, too_many_section_line}
 use Rattle.rwc.specs.Refusals.{refused_line}
 
@@ -27,7 +27,7 @@ pub record Refused : Type 0 where
 -- what a WebAssembly module leads to: its canonical bytes, which by the grammar spell it, all of them; or the refusal of a
 -- section whose content has 2^32 bytes or more, which is the first such one
 pub data BinaryLeads (m : WModule) (binary : Result (List ℕ) Refused) : Type 0 where
-  encoded : EachContentFits m → SpellsModule (module_bytes m) m → binary ≡ Ok (module_bytes m) → BinaryLeads m binary
+  encoded : HasShortContents m → SpellsModule (module_bytes m) m → binary ≡ Ok (module_bytes m) → BinaryLeads m binary
   too_long : (id : ℕ) → IsFirstTooLong m id → binary ≡ Err (record { status = 11; line = too_many_section_line id }) → BinaryLeads m binary
 
 -- what a checked module leads to, which is linked alone and lowered for so many pages

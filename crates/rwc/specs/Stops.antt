@@ -6,7 +6,7 @@ use Rattle.std.specs.declared.result.Result.TheVariants.{Ok, Err}
 use Rattle.rwc.specs.declared.ending.Done.{Done}
 use Rattle.rwc.specs.declared.ending.Done.TheVariants.{Finished, Trapped, Spent}
 use Rattle.rwc.specs.declared.ending.Stop.{Stop}
-use Rattle.rwc.specs.declared.ending.Stop.TheVariants.{Refused as IsRefused, Unread, Unwritten, Memory}
+use Rattle.rwc.specs.declared.ending.Stop.TheVariants.{Refused as RefusedStop, Unread, Unwritten, Memory}
 use Rattle.rwc.specs.Acts.{Act, Seen, IsPart, after_act, after_acts}
 use Rattle.rwc.specs.Lines.{memory_line, write_fault_line}
 use Rattle.rwc.specs.Compiled.{Refused}
@@ -17,13 +17,13 @@ done_status Trapped = 6
 done_status Spent = 7
 
 abbrev pub stop_status : Stop → ℕ
-stop_status (IsRefused status line) = status
+stop_status (RefusedStop status line) = status
 stop_status (Unread line) = 4
 stop_status (Unwritten line) = 5
 stop_status Memory = 8
 
 abbrev pub stop_line : Stop → List ℕ
-stop_line (IsRefused status line) = string_bytes line
+stop_line (RefusedStop status line) = string_bytes line
 stop_line (Unread line) = string_bytes line
 stop_line (Unwritten line) = string_bytes line
 stop_line Memory = memory_line
@@ -36,16 +36,16 @@ abbrev pub line_of : Result Done Stop → List ℕ
 line_of (Ok done) = []
 line_of (Err stop) = stop_line stop
 
--- R of the status and the line of a refusal, L of the line of a failed load, W of the line of a failed write
+-- what is told of the status and the line of a refusal, of the line of a failed load, and of that of a failed write
 abbrev pub IfStop : Stop → (ℕ → List ℕ → Type 0) → (List ℕ → Type 0) → (List ℕ → Type 0) → Type 0
-IfStop (IsRefused status line) R L W = R status (string_bytes line)
-IfStop (Unread line) R L W = L (string_bytes line)
-IfStop (Unwritten line) R L W = W (string_bytes line)
-IfStop Memory R L W = ⊤
+IfStop (RefusedStop status line) Refusal Load Write = Refusal status (string_bytes line)
+IfStop (Unread line) Refusal Load Write = Load (string_bytes line)
+IfStop (Unwritten line) Refusal Load Write = Write (string_bytes line)
+IfStop Memory Refusal Load Write = ⊤
 
 abbrev pub IfStopped : {T : Type 0} → Result T Stop → (ℕ → List ℕ → Type 0) → (List ℕ → Type 0) → (List ℕ → Type 0) → Type 0
-IfStopped (Ok _) R L W = ⊤
-IfStopped (Err stop) R L W = IfStop stop R L W
+IfStopped (Ok _) Refusal Load Write = ⊤
+IfStopped (Err stop) Refusal Load Write = IfStop stop Refusal Load Write
 
 -- the answer is one that Leads allows, or a failed load, or want of memory
 abbrev pub IsStep : (Result (List ℕ) Refused → Type 0) → Result (Vec ℕ Global) Stop → Type 0

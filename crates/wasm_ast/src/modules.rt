@@ -27,7 +27,8 @@ pub struct Import {
     pub what: ImportKind,
 }
 
-/// What is imported: a function by its type index, or a global with its type and whether it is mutable.
+/// What is imported: a function by its type index, a table or a memory by its limits, or a global by its type and
+/// whether it is mutable.
 #[derive(Clone, Copy, Debug, PartialEq, Eq)]
 pub enum ImportKind {
     Func(u32),

@@ -4,10 +4,9 @@ use Rattle.std.specs.Prelude.{Result, Err}
 use Rattle.std.specs.Result.{IsErrAnd}
 use Rattle.std.proofs.lemmas.Result.{err_from_is_err_and}
 use Rattle.wasm_ast.specs.declared.modules.WModule.{WModule}
-use Rattle.wasm_grammar.specs.CanonicalModules.{module_bytes}
+use Rattle.wasm_grammar.specs.CanonicalModules.{HasShortContents, module_bytes}
 use Rattle.wasm_grammar.specs.GrammarModules.{SpellsModule}
 use Rattle.wasm_grammar.specs.Profile.{IsInProfile}
-use Rattle.wasm_spelling.specs.SpellingLaws.{HasShortContents}
 use Rattle.wasm_spelling.proofs.SpelledModules.{canonical_bytes_spell}
 use Rattle.wasm_spelling.proofs.ModulesAgree.{bytes_spell_one_module}
 use Rattle.wasm_reading.specs.declared.fault.DecodeError.{DecodeError}

@@ -8,7 +8,7 @@ use wasm_ast::WModule;
 use wasm_encode::{EncodeError, encode};
 
 /// Whether these bytes, fewer than 2^32, are the canonical bytes of the module (WebAssembly Core Specification 1.0,
-/// 5.5.15 Modules; which bytes are canonical is this project's own). Blocks nest at most 1,000 deep, as `encode` wants it.
+/// 5.5.15 Modules; which bytes are canonical is this project's own). Blocks nest at most 1,000 deep, as `encode` requires.
 pub fn is_canonical(alloc: Global, bytes: &[u8], m: &WModule) -> Result<bool, AllocError>
     requires nests { ModuleNestsAtMost nesting_limit m.now }
     requires short { length bytes.now < 2 ^ 32 }

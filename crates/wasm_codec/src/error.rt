@@ -2,10 +2,10 @@ use thiserror::Error;
 use wasm_encode::EncodeError;
 use wasm_reading::DecodeError;
 
-/// Why there are no canonical bytes, or no module (this project's own).
+/// Why a module is not encoded, or bytes are not decoded (this project's own).
 #[derive(Debug, Drop, PartialEq, Eq, Error)]
 pub enum CodecError {
-    /// The module has no bytes, or memory is wanting.
+    /// The content of a section has 2^32 bytes or more, or memory is wanting.
     #[error("no canonical bytes: {0}")]
     Encode(EncodeError),
     /// The bytes spell no module, or memory is wanting.

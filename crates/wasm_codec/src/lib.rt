@@ -1,4 +1,4 @@
-//! The binary format of WebAssembly modules as one door: the encoder, the decoder, and the round trip.
+//! The encoder and the decoder of the binary format of WebAssembly modules together, and the round trip.
 #![tactic(auto)]
 
 mod canonical;

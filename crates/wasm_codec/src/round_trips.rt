@@ -1,14 +1,14 @@
 // Encoding and decoding, one behind the other.
 ghost use Rattle.std.specs.Prelude.{◌≡◌, ℕ, ◌⊎◌, IfOk, OnOk, IsErrOf};
 ghost use Rattle.wasm_ast.specs.declared.modules.WModule.{WModule};
-ghost use Rattle.wasm_grammar.specs.CanonicalModules.{module_bytes};
+ghost use Rattle.wasm_grammar.specs.CanonicalModules.{HasShortContents, module_bytes};
 ghost use Rattle.wasm_grammar.specs.GrammarModules.{SpellsModule};
 ghost use Rattle.wasm_grammar.specs.Profile.{IsInProfile};
 ghost use Rattle.wasm_reading.specs.declared.fault.DecodeError.{DecodeError};
 ghost use Rattle.wasm_reading_laws.specs.ModulesRead.{HasFirstFault};
 ghost use Rattle.wasm_items.specs.Residuals.{no_memory};
 ghost use Rattle.wasm_encode.specs.declared.error.EncodeError.TheVariants.{TooLong};
-ghost use Rattle.wasm_encode.specs.Contents.{EachContentFits, IsFirstTooLong};
+ghost use Rattle.wasm_encode.specs.Contents.{IsFirstTooLong};
 ghost use Rattle.wasm_codec.specs.RoundTrips.{IsCanonicalForm, HasTooLong};
 
 use crate::error::CodecError;
@@ -23,9 +23,9 @@ use wasm_encode::encode;
 pub fn round_trip(alloc: Global, m: &WModule) -> Result<Decoded, CodecError>
     requires { IsInProfile m.now }
     ensures same { IfOk result (λ decoded. decoded ≡ m.now) }
-    ensures fits { OnOk result (EachContentFits m.now) }
+    ensures fits { OnOk result (HasShortContents m.now) }
     ensures long { (id : ℕ) → IsErrOf result (CodecError.Encode (TooLong id)) → IsFirstTooLong m.now id }
-    ensures memory { (e : DecodeError) → IsErrOf result (CodecError.Decode e) → (e ≡ no_memory) × EachContentFits m.now }
+    ensures memory { (e : DecodeError) → IsErrOf result (CodecError.Decode e) → (e ≡ no_memory) × HasShortContents m.now }
 {
     let bytes = encode(alloc, m)?;
     Ok(decode(alloc, bytes.as_slice())?)

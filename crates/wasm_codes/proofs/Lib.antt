@@ -4,5 +4,5 @@ pub mod ListEnds
 pub mod LocalSteps
 pub mod SizeSteps
 pub mod PlainSteps
-pub mod Hunger
+pub mod WantsBytes
 pub mod Answering

@@ -8,10 +8,11 @@ use Rattle.wasm_grammar.specs.CanonicalModules.{preamble}
 use Rattle.wasm_reading.specs.declared.fault.DecodeError.{DecodeError}
 use Rattle.wasm_reading.specs.declared.fault.DecodeFault.TheVariants.{Truncated, CountMismatch, BadLength}
 use Rattle.wasm_reading.specs.Readers.{Input, Reader, and_then, ◌>>=◌, give, fail, byte_at, each_at, ended}
-use Rattle.wasm_reading.specs.ReadModules.{without_rest, empty_module, reading_of}
+use Rattle.wasm_grammar.specs.WorkedModules.{empty_module}
+use Rattle.wasm_reading.specs.ReadModules.{without_rest, reading_of}
 use Rattle.wasm_items.specs.LebStates.{LebState, rest_of_leb}
-use Rattle.wasm_items.specs.Residuals.{IsHungry, stop, no_memory}
-use Rattle.wasm_items.specs.Hunger.{hungry_then, hungry_here, hungry_byte, hungry_leb}
+use Rattle.wasm_items.specs.Residuals.{WantsAByte, stop, no_memory}
+use Rattle.wasm_items.specs.WantsBytes.{wants_then, wants_here, wants_byte, wants_leb}
 use Rattle.wasm_decode.specs.declared.content.Content as content
 use Rattle.wasm_decode.specs.Contents.{rest_of_content}
 use Rattle.wasm_decode.specs.declared.decoder.Decoder.{Decoder}
@@ -20,7 +21,7 @@ use Rattle.wasm_decode.specs.declared.steps.Step.TheVariants.{Preamble, Between,
 use Rattle.wasm_decode.specs.Decoding.{answer_of, error_or}
 use Rattle.wasm_decode.specs.Steps.{custom_bytes, custom_step, TakesAtTop, IsTruncated, rest_of_step, sections_left, content_left, custom_left, sized_left}
 use Rattle.wasm_decode.proofs.Advancing.{behind_preamble, preamble_bytes}
-use Rattle.wasm_decode.proofs.HungryContents.{hungry_content}
+use Rattle.wasm_decode.proofs.ContentsWantBytes.{wants_content}
 
 -- a byte is taken
 pub answer_taken : {old new : Reader WModule} {b at : ℕ} → TakesAtTop old b at new → (rest : List ℕ) →
@@ -32,8 +33,8 @@ pub answer_stops : {old : Reader WModule} {b at : ℕ} (e : DecodeError) → Tak
 answer_stops e t rest = ap without_rest (t.same rest)
 
 -- the input ends where a byte is wanted
-truncated : (reader : Reader WModule) (at : ℕ) → IsHungry reader → IsTruncated reader at
-truncated reader at hungry = hungry.wants (record { at = at; end = None; rest = [] }) (record { at = at; fault = Truncated }) refl
+truncated : (reader : Reader WModule) (at : ℕ) → WantsAByte reader → IsTruncated reader at
+truncated reader at wanting = wanting.wants (record { at = at; end = None; rest = [] }) (record { at = at; fault = Truncated }) refl
 
 -- the input ends behind a section
 pub answer_ended : (last at : ℕ) (m : WModule) → length m.codes ≡ length m.funcs → without_rest (sections_left last m (record { at = at; end = None; rest = [] })) ≡ Ok m
@@ -45,8 +46,8 @@ pub answer_mismatch : (last at : ℕ) (m : WModule) → (length m.codes ≡ leng
 answer_mismatch last at m e =
     ap (λ (c : Bool). without_rest ((if c then give m else fail CountMismatch at) (record { at = at; end = None; rest = [] }))) (ne_eqb _ _ e)
 
-preamble_hungry : (k wanted : ℕ) (bytes : List ℕ) (last : ℕ) (m : WModule) → IsHungry (behind_preamble k (wanted ∷ bytes) last m)
-preamble_hungry k wanted bytes last m = hungry_then (λ _. sections_left last m) (hungry_here (λ place. hungry_then _ hungry_byte))
+preamble_wants : (k wanted : ℕ) (bytes : List ℕ) (last : ℕ) (m : WModule) → WantsAByte (behind_preamble k (wanted ∷ bytes) last m)
+preamble_wants k wanted bytes last m = wants_then (λ _. sections_left last m) (wants_here (λ place. wants_then _ wants_byte))
 
 abbrev at_the_end : ℕ → Input
 at_the_end at = record { at = at; end = None; rest = [] }
@@ -54,18 +55,18 @@ at_the_end at = record { at = at; end = None; rest = [] }
 pub preamble_truncated : (k at last : ℕ) (m : WModule) → k < 8 → IsTruncated (behind_preamble k (drop k preamble) last m) at
 preamble_truncated k at last m h =
     ap (λ (bytes : List ℕ). behind_preamble k bytes last m (at_the_end at)) (preamble_bytes k h)
-    ∙ truncated (behind_preamble k (slice_index preamble k ∷ drop (k + 1) preamble) last m) at (preamble_hungry k (slice_index preamble k) (drop (k + 1) preamble) last m)
+    ∙ truncated (behind_preamble k (slice_index preamble k ∷ drop (k + 1) preamble) last m) at (preamble_wants k (slice_index preamble k) (drop (k + 1) preamble) last m)
 
 pub size_truncated : (id at last : ℕ) (m : WModule) (number : LebState) → IsTruncated (rest_of_leb number >>= (λ size. sized_left id last m size)) at
-size_truncated id at last m number = truncated (rest_of_leb number >>= (λ size. sized_left id last m size)) at (hungry_then (λ size. sized_left id last m size) (hungry_leb number))
+size_truncated id at last m number = truncated (rest_of_leb number >>= (λ size. sized_left id last m size)) at (wants_then (λ size. sized_left id last m size) (wants_leb number))
 
-custom_hungry : (behind last : ℕ) (m : WModule) → IsHungry (custom_left (suc behind) last m)
-custom_hungry behind last m = hungry_then (λ _. sections_left last m) (hungry_then (λ x. each_at byte_at behind >>= (λ xs. give (x ∷ xs))) hungry_byte)
+custom_wants : (behind last : ℕ) (m : WModule) → WantsAByte (custom_left (suc behind) last m)
+custom_wants behind last m = wants_then (λ _. sections_left last m) (wants_then (λ x. each_at byte_at behind >>= (λ xs. give (x ∷ xs))) wants_byte)
 
 pub custom_truncated : (behind at last : ℕ) (m : WModule) → IsTruncated (custom_left (behind + 1) last m) at
 custom_truncated behind at last m =
     let more : behind + 1 ≡ suc behind = omega arith in
-    ap (λ (n : ℕ). custom_left n last m (at_the_end at)) more ∙ truncated (custom_left (suc behind) last m) at (custom_hungry behind last m)
+    ap (λ (n : ℕ). custom_left n last m (at_the_end at)) more ∙ truncated (custom_left (suc behind) last m) at (custom_wants behind last m)
 
 otherwise : {A : Type 0} (t : Bool) (x y : A) → t ≡ false → (if t then x else y) ≡ y
 otherwise true x y e = absurd (cc)
@@ -76,7 +77,7 @@ pub content_truncated : (behind at last : ℕ) (m : WModule) (state : content.Co
 content_truncated behind at last m state =
     let end : ℕ = at + (behind + 1) in
     ap (λ o. and_then (and_then o (ended None (at + (behind + 1)))) (λ m'. sections_left last m'))
-    ((hungry_content m state).wants (record { at = at; end = Some (at + (behind + 1)); rest = [] }) (record { at = at; fault = Truncated })
+    ((wants_content m state).wants (record { at = at; end = Some (at + (behind + 1)); rest = [] }) (record { at = at; fault = Truncated })
     (otherwise (at == at + (behind + 1)) (Err (record { at = at; fault = BadLength })) (Err (record { at = at; fault = Truncated })) (ne_eqb _ _ (λ e. omega (arith, e)))))
 
 -- a decoder that has answered an error

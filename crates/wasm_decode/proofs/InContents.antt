@@ -6,7 +6,7 @@ use Rattle.wasm_ast.specs.declared.modules.WModule.{WModule}
 use Rattle.wasm_reading.specs.declared.fault.DecodeError.{DecodeError}
 use Rattle.wasm_reading.specs.declared.fault.DecodeFault.TheVariants.{BadLength}
 use Rattle.wasm_reading.specs.Readers.{Reader, and_then, give, ended}
-use Rattle.wasm_items.specs.Residuals.{IsHungry, stop}
+use Rattle.wasm_items.specs.Residuals.{WantsAByte, stop}
 use Rattle.wasm_codes.specs.Places.{TakesBefore}
 use Rattle.wasm_decode.specs.Steps.{TakesAtTop, sections_left, content_left}
 
@@ -48,21 +48,21 @@ module _ (end last : ℕ) where
   }
 
   -- a reader that wants a byte has none left
-  pub starves : (reader : Reader WModule) → IsHungry reader → (bs : List ℕ) → content_left end reader last (record { at = end; end = None; rest = bs }) ≡ Err (bad_length end)
-  starves reader hungry bs =
+  pub none_left : (reader : Reader WModule) → WantsAByte reader → (bs : List ℕ) → content_left end reader last (record { at = end; end = None; rest = bs }) ≡ Err (bad_length end)
+  none_left reader wanting bs =
       ap (λ o. and_then (and_then o (ended None end)) (λ m. sections_left last m))
-      (hungry.wants (record { at = end; end = Some end; rest = bs }) (bad_length end) (at_end (end == end) (Err (bad_length end)) _ (eq-eqb _ _ refl)))
+      (wanting.wants (record { at = end; end = Some end; rest = bs }) (bad_length end) (at_end (end == end) (Err (bad_length end)) _ (eq-eqb _ _ refl)))
 
-  pub not_whole : {old new : Reader WModule} {b at : ℕ} → at + 1 ≡ end → IsHungry new → TakesBefore old b at new → TakesAtTop (content_left end old last) b at (stop (bad_length (at + 1)))
-  not_whole {old} {new} {b} {at} h hungry t = record {
+  pub not_whole : {old new : Reader WModule} {b at : ℕ} → at + 1 ≡ end → WantsAByte new → TakesBefore old b at new → TakesAtTop (content_left end old last) b at (stop (bad_length (at + 1)))
+  not_whole {old} {new} {b} {at} h wanting t = record {
     same = λ bs.
         (takes_within (omega (arith, h)) t).same bs
-        ∙ ap (λ place. content_left end new last (record { at = place; end = None; rest = bs })) h ∙ starves new hungry bs ∙ ap (λ place. Err (bad_length place)) (sym h);
+        ∙ ap (λ place. content_left end new last (record { at = place; end = None; rest = bs })) h ∙ none_left new wanting bs ∙ ap (λ place. Err (bad_length place)) (sym h);
   }
 
 -- the last byte of a content that wants a further one
-pub starved : (behind at last : ℕ) {old new : Reader WModule} {b : ℕ} (e : DecodeError) → e ≡ bad_length (at + 1) → behind ≡ 0 → IsHungry new → TakesBefore old b at new →
+pub too_short : (behind at last : ℕ) {old new : Reader WModule} {b : ℕ} (e : DecodeError) → e ≡ bad_length (at + 1) → behind ≡ 0 → WantsAByte new → TakesBefore old b at new →
     TakesAtTop (content_left (at + (behind + 1)) old last) b at (stop e)
-starved behind at last {old} {new} {b} e is none hungry t =
+too_short behind at last {old} {new} {b} e is none wanting t =
     let same : at + 1 ≡ at + (behind + 1) = omega (arith, none) in
-    rw is (not_whole (at + (behind + 1)) last same hungry t)
+    rw is (not_whole (at + (behind + 1)) last same wanting t)

@@ -1,6 +1,6 @@
 pub mod Advancing
 pub mod InContents
-pub mod HungryContents
+pub mod ContentsWantBytes
 pub mod CodeSteps
 pub mod Decoding
 pub mod WholeInputs

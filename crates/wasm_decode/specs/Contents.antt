@@ -1,5 +1,5 @@
 -- The content of a section in the middle (WebAssembly Core Specification 1.0, section 5.5); the states are this project's own.
-use Rattle.std.specs.Prelude.{◌≡◌, ℕ, ◌==◌, ◌++◌, [], ◌∷◌, if◌then◌else◌, List, Option, None, Some, Result, Ok, Err}
+use Rattle.std.specs.Prelude.{ℕ, ◌==◌, ◌++◌, [], ◌∷◌, if◌then◌else◌, List, Option, None, Some, Result, Ok, Err}
 use Rattle.wasm_ast.specs.declared.modules.WModule.{WModule}
 use Rattle.wasm_ast.specs.declared.modules.Import.{Import}
 use Rattle.wasm_ast.specs.declared.modules.WGlobal.{WGlobal}
@@ -115,10 +115,6 @@ rest_of_content m (Codes alloc before state behind) = rest_of_codes m before sta
 abbrev pub rest_behind_codes : WModule → Option Content → Reader WModule
 rest_behind_codes m (Some state) = rest_of_content m state
 rest_behind_codes m None = give m
-
--- two readers read the same from the place `at` on
-pub record StartsAs (whole : Reader WModule) (at : ℕ) (reader : Reader WModule) : Type 0 where
-  pub same : (end : Option ℕ) (bs : List ℕ) → whole (record { at = at; end = end; rest = bs }) ≡ reader (record { at = at; end = end; rest = bs })
 
 -- the answer to a byte is what the residual `old` makes of it, where the module is `m` now, or want of memory
 abbrev pub PushesInto : Reader WModule → ℕ → ℕ → WModule → Result (Option Content) DecodeError → Type 0

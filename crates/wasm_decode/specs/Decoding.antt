@@ -1,4 +1,4 @@
--- A decoder in the middle, and what it answers where its input goes on in this way; this project's own.
+-- A decoder in the middle, and what it answers where its input goes on by given bytes and then ends; this project's own.
 use Rattle.std.specs.Prelude.{◌≡◌, ℕ, ◌++◌, List, Option, None, Some, Result, Err}
 use Rattle.wasm_ast.specs.declared.modules.WModule.{WModule}
 use Rattle.wasm_reading.specs.declared.fault.DecodeError.{DecodeError}

@@ -2,7 +2,8 @@
 ghost use Rattle.std.specs.Prelude.{◌≡◌, ◌+◌, ◌<◌, ◌≤◌, ◌^◌, [], length};
 ghost use Rattle.wasm_ast.specs.declared.modules.WModule.{WModule};
 ghost use Rattle.wasm_reading.specs.ReadModules.{content_at};
-ghost use Rattle.wasm_decode.specs.Contents.{rest_of_content, rest_of_start, rest_of_count, rest_of_codes, more_codes, rest_behind_codes, StartsAs, PushesInto, PushesBefore};
+ghost use Rattle.wasm_codes.specs.Places.{AlikeAt};
+ghost use Rattle.wasm_decode.specs.Contents.{rest_of_content, rest_of_start, rest_of_count, rest_of_codes, more_codes, rest_behind_codes, PushesInto, PushesBefore};
 
 use crate::entries::{
     push_elements, push_exports, push_funcs, push_globals, push_imports, push_memories,
@@ -50,7 +51,7 @@ impl Content {
     /// The content of the section with this id, 1 to 11, of which nothing was read. It begins at the place `at`, and
     /// there are so many functions. Any other id stands for 11.
     pub fn start(alloc: Global, id: u8, functions: usize, at: u64) -> Content
-        ensures { (m : WModule) → length m.funcs ≡ functions → StartsAs (content_at id m) at (rest_of_content m result) }
+        ensures { (m : WModule) → length m.funcs ≡ functions → AlikeAt at (content_at id m) (rest_of_content m result) }
     {
         match id {
             1 => Content::Types(VectorState::start(alloc)),

@@ -141,6 +141,7 @@ impl Decoder {
     pub fn finish(self) -> Result<Decoded, DecodeError>
         ensures ok { IfOk result (λ decoded. answer_of self [] ≡ Ok decoded) }
         ensures err { IfErr result (λ e. answer_of self [] ≡ Err e) }
+        ensures again { (e : DecodeError) → error_of self ≡ Some e → result ≡ Err e }
     {
         let ending = self.ending();
         decoded(self.into_module(), ending)
@@ -157,6 +158,7 @@ impl Decoder {
     fn ending(&self) -> Result<(), DecodeError>
         ensures ok { OnOk result (answer_of self.now [] ≡ Ok (built_of self.now)) }
         ensures err { IfErr result (λ e. answer_of self.now [] ≡ Err e) }
+        ensures again { (e : DecodeError) → error_of self.now ≡ Some e → result ≡ Err e }
     {
         match self.failed {
             Some(e) => Err(e),

@@ -2,4 +2,8 @@
 #![tactic(auto)]
 
 #[cfg(test)]
+mod built_rows;
+#[cfg(test)]
+mod case_rows;
+#[cfg(test)]
 mod rows;

@@ -28,7 +28,7 @@ fn fault_of(answer: Result<Decoded, DecodeError>) -> Option<DecodeError> {
 }
 
 /// Whether the input has this answer, whole and byte by byte.
-fn has(alloc: Global, bytes: &[u8], fault: Option<DecodeError>) -> bool {
+pub fn has(alloc: Global, bytes: &[u8], fault: Option<DecodeError>) -> bool {
     fault_of(decode(alloc, bytes)) == fault && fault_of(byte_by_byte(alloc, bytes)) == fault
 }
 
@@ -87,6 +87,41 @@ fn each_front_of_a_module(rt: HostRuntime) {
     }
 }
 
+/// A byte of the module, and what is wrong there where it is replaced by FF.
+const REPLACED: [(usize, DecodeFault); 18] = [
+    (0, DecodeFault::BadMagic),
+    (1, DecodeFault::BadMagic),
+    (2, DecodeFault::BadMagic),
+    (3, DecodeFault::BadMagic),
+    (4, DecodeFault::BadVersion),
+    (5, DecodeFault::BadVersion),
+    (6, DecodeFault::BadVersion),
+    (7, DecodeFault::BadVersion),
+    (8, DecodeFault::BadTag),
+    (11, DecodeFault::BadTag),
+    (14, DecodeFault::BadTag),
+    (15, DecodeFault::BadTag),
+    (19, DecodeFault::BadTag),
+    (23, DecodeFault::BadUtf8),
+    (27, DecodeFault::BadTag),
+    (29, DecodeFault::BadTag),
+    (34, DecodeFault::BadTag),
+    (36, DecodeFault::BadTag),
+];
+
+#[test]
+fn one_byte_replaced(rt: HostRuntime) {
+    let alloc = rt.alloc();
+    for (place, fault) in REPLACED {
+        let mut input = SIX.to_vec(alloc).expect(&rt, "memory");
+        if let Some(byte) = input.get_mut(place) {
+            *byte = 0xFF;
+        }
+        let at = place as u64;
+        assert!(rt; has(alloc, &input, Some(DecodeError { at, fault })));
+    }
+}
+
 #[test]
 fn modules_are_read(rt: HostRuntime) {
     let alloc = rt.alloc();
@@ -103,14 +138,24 @@ fn modules_are_read(rt: HostRuntime) {
     );
 }
 
+/// The preamble, and a custom section whose content is 10,000 bytes FF.
+fn with_long_custom(alloc: Global) -> Result<Vec<u8>, AllocError> {
+    let mut input = behind_preamble(alloc, &[0x00, 0x90, 0x4E])?;
+    for _ in 0..100 {
+        input.extend_from_slice(&[0xFF; 100])?;
+    }
+    Ok(input)
+}
+
 #[test]
 fn a_custom_section_is_skipped(rt: HostRuntime) {
     let alloc = rt.alloc();
+    let input = with_long_custom(alloc).expect(&rt, "memory");
+    assert_eq!(rt; input.len(), 10_011);
+    assert!(rt; has(alloc, &input, None));
     let mut decoder = Decoder::new(alloc);
-    assert!(rt; decoder.feed(PREAMBLE).is_ok());
-    assert!(rt; decoder.feed(&[0x00, 0x90, 0x4E]).is_ok());
-    for _ in 0..100 {
-        assert!(rt; decoder.feed(&[0xFF; 100]).is_ok());
+    for piece in input.chunks(100) {
+        assert!(rt; decoder.feed(piece).is_ok());
     }
     let decoded = decoder.finish();
     assert!(rt; matches!(&decoded, Ok(decoded) if decoded.module().codes.is_empty()));

@@ -5,10 +5,10 @@ use Rattle.std.specs.Result.{IsErrAnd}
 use Rattle.std.proofs.lemmas.Bool.{cases_lt, cond-false, ne_eqb}
 use Rattle.std.proofs.lemmas.Result.{err_from_is_err_and}
 use Rattle.wasm_ast.specs.declared.modules.WModule.{WModule}
-use Rattle.wasm_grammar.specs.CanonicalModules.{content_of}
+use Rattle.wasm_grammar.specs.CanonicalModules.{HasShortContents, content_of}
 use Rattle.wasm_encode.specs.declared.error.EncodeError.{EncodeError}
 use Rattle.wasm_encode.specs.declared.error.EncodeError.TheVariants.{TooLong}
-use Rattle.wasm_encode.specs.Contents.{EarlierContentsFit, EachContentFits, IsFirstTooLong}
+use Rattle.wasm_encode.specs.Contents.{EarlierContentsFit, IsFirstTooLong}
 
 -- the contents of the sections before this one fit
 pub record FitBefore (m : WModule) (id : ℕ) : Type 0 where
@@ -42,7 +42,7 @@ none_past m id h =
     ∙ other id 5 _ _ (omega arith) ∙ other id 6 _ _ (omega arith) ∙ other id 7 _ _ (omega arith) ∙ other id 8 _ _ (omega arith)
     ∙ other id 9 _ _ (omega arith) ∙ other id 10 _ _ (omega arith) ∙ other id 11 _ _ (omega arith)
 
-pub all_fit : {m : WModule} → FitBefore m 12 → EachContentFits m
+pub all_fit : {m : WModule} → FitBefore m 12 → HasShortContents m
 all_fit {m} before id =
     elim (cases_lt id 12) [
       | inl h ↦ before.fit id h

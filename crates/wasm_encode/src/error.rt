@@ -1,7 +1,7 @@
 use std::alloc::AllocError;
 use thiserror::Error;
 
-/// Why a module, or a section of it, has no bytes (this project's own).
+/// Why a module, or a section of it, is not encoded (this project's own).
 #[derive(Debug, Drop, PartialEq, Eq, Error)]
 pub enum EncodeError {
     /// The content of the section of this id has 2^32 bytes or more, so that no `u32` is its length.

@@ -1,8 +1,8 @@
 ghost use Rattle.std.specs.Prelude.{◌≡◌, ◌++◌, ℕ, IfOk, OnOk, IsErrOf};
 ghost use Rattle.wasm_grammar.specs.CanonicalTypes.{vector_bytes, table_type_bytes};
-ghost use Rattle.wasm_grammar.specs.CanonicalModules.{section_of, start_section, start_bytes, code_bytes, module_bytes};
+ghost use Rattle.wasm_grammar.specs.CanonicalModules.{HasShortContents, section_of, start_section, start_bytes, code_bytes, module_bytes};
 ghost use Rattle.wasm_grammar.specs.Nesting.{ModuleNestsAtMost, nesting_limit};
-ghost use Rattle.wasm_encode.specs.Contents.{EachContentFits, IsFirstTooLong, TellsFit};
+ghost use Rattle.wasm_encode.specs.Contents.{IsFirstTooLong, TellsFit};
 
 use crate::entries::push_table_types;
 use crate::error::EncodeError;
@@ -43,7 +43,7 @@ const PREAMBLE: [u8; 8] = *b"\0asm\x01\0\0\0";
 pub fn encode(alloc: Global, m: &WModule) -> Result<Vec<u8>, EncodeError>
     requires { ModuleNestsAtMost nesting_limit m.now }
     ensures bytes { IfOk result (λ bytes. bytes.items ≡ module_bytes m.now) }
-    ensures fits { OnOk result (EachContentFits m.now) }
+    ensures fits { OnOk result (HasShortContents m.now) }
     ensures long { (id : ℕ) → IsErrOf result (EncodeError.TooLong id) → IsFirstTooLong m.now id }
 {
     let mut out = Vec::from_slice(alloc, &PREAMBLE)?;

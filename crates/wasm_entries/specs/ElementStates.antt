@@ -5,11 +5,11 @@ use Rattle.wasm_ast.specs.declared.modules.ElemSeg.{ElemSeg}
 use Rattle.wasm_reading.specs.Readers.{Reader, ◌>>=◌, give}
 use Rattle.wasm_reading.specs.ReadValues.{u32_at, vector_at}
 use Rattle.wasm_reading.specs.ReadInstructions.{constant_at}
-use Rattle.wasm_items.specs.Residuals.{IsHungry}
-use Rattle.wasm_items.specs.Hunger.{hungry_then, hungry_leb}
+use Rattle.wasm_items.specs.Residuals.{WantsAByte}
+use Rattle.wasm_items.specs.WantsBytes.{wants_then, wants_leb}
 use Rattle.wasm_items.specs.LebStates.{rest_of_leb}
-use Rattle.wasm_items.specs.ConstantStates.{rest_of_constant, hungry_constant}
-use Rattle.wasm_items.specs.Vectors.{rest_of_vector, hungry_vector}
+use Rattle.wasm_items.specs.ConstantStates.{rest_of_constant, wants_constant}
+use Rattle.wasm_items.specs.Vectors.{rest_of_vector, wants_vector}
 use Rattle.wasm_entries.specs.declared.element.ElementState.{ElementState}
 use Rattle.wasm_entries.specs.declared.element.ElementState.TheVariants.{Table, Offset, Funcs}
 
@@ -32,7 +32,7 @@ rest_of_element (Offset alloc table offset) = rest_of_constant offset >>= behind
 rest_of_element (Funcs table offset funcs) = rest_of_vector u32_at rest_of_leb funcs >>= filled table offset
 
 -- an element segment wants a byte
-pub hungry_element : (state : ElementState) → IsHungry (rest_of_element state)
-hungry_element (Table alloc number) = hungry_then behind_table (hungry_leb number)
-hungry_element (Offset alloc table offset) = hungry_then (behind_offset table) (hungry_constant offset)
-hungry_element (Funcs table offset funcs) = hungry_then (filled table offset) (hungry_vector u32_at rest_of_leb hungry_leb funcs)
+pub wants_element : (state : ElementState) → WantsAByte (rest_of_element state)
+wants_element (Table alloc number) = wants_then behind_table (wants_leb number)
+wants_element (Offset alloc table offset) = wants_then (behind_offset table) (wants_constant offset)
+wants_element (Funcs table offset funcs) = wants_then (filled table offset) (wants_vector u32_at rest_of_leb wants_leb funcs)

@@ -5,10 +5,10 @@ use Rattle.wasm_ast.specs.declared.modules.ExportKind.{ExportKind}
 use Rattle.wasm_reading.specs.Readers.{Reader, ◌>>=◌, give}
 use Rattle.wasm_reading.specs.ReadValues.{tag_at, u32_at}
 use Rattle.wasm_reading.specs.ReadModules.{external_kind_of}
-use Rattle.wasm_items.specs.Residuals.{IsHungry}
-use Rattle.wasm_items.specs.Hunger.{hungry_then, hungry_leb, hungry_tag}
+use Rattle.wasm_items.specs.Residuals.{WantsAByte}
+use Rattle.wasm_items.specs.WantsBytes.{wants_then, wants_leb, wants_tag}
 use Rattle.wasm_items.specs.LebStates.{rest_of_leb}
-use Rattle.wasm_items.specs.NameStates.{rest_of_name, hungry_name}
+use Rattle.wasm_items.specs.NameStates.{rest_of_name, wants_name}
 use Rattle.wasm_entries.specs.declared.export.ExportState.{ExportState}
 use Rattle.wasm_entries.specs.declared.export.ExportState.TheVariants.{Name, Kind, Index}
 
@@ -31,7 +31,7 @@ rest_of_export (Kind name) = behind_name name
 rest_of_export (Index name kind number) = rest_of_leb number >>= indexed name kind
 
 -- an export wants a byte
-pub hungry_export : (state : ExportState) → IsHungry (rest_of_export state)
-hungry_export (Name name) = hungry_then behind_name (hungry_name name)
-hungry_export (Kind name) = hungry_then (behind_kind name) (hungry_tag external_kind_of)
-hungry_export (Index name kind number) = hungry_then (indexed name kind) (hungry_leb number)
+pub wants_export : (state : ExportState) → WantsAByte (rest_of_export state)
+wants_export (Name name) = wants_then behind_name (wants_name name)
+wants_export (Kind name) = wants_then (behind_kind name) (wants_tag external_kind_of)
+wants_export (Index name kind number) = wants_then (indexed name kind) (wants_leb number)

@@ -5,10 +5,10 @@ use Rattle.wasm_ast.specs.declared.types.FuncType.{FuncType}
 use Rattle.wasm_reading.specs.Readers.{Reader, ◌>>=◌, give}
 use Rattle.wasm_reading.specs.ReadValues.{tag_at, only, vector_at}
 use Rattle.wasm_reading.specs.ReadTypes.{value_type_of, at_most, results_at, func_type_at}
-use Rattle.wasm_items.specs.Residuals.{IsHungry}
-use Rattle.wasm_items.specs.Hunger.{hungry_then, hungry_tag}
-use Rattle.wasm_items.specs.BoundedStates.{bounded_at, rest_of_bounded, hungry_bounded}
-use Rattle.wasm_items.specs.Vectors.{rest_of_vector, hungry_vector}
+use Rattle.wasm_items.specs.Residuals.{WantsAByte}
+use Rattle.wasm_items.specs.WantsBytes.{wants_then, wants_tag}
+use Rattle.wasm_items.specs.BoundedStates.{bounded_at, rest_of_bounded, wants_bounded}
+use Rattle.wasm_items.specs.Vectors.{rest_of_vector, wants_vector}
 use Rattle.wasm_entries.specs.declared.func_type.FuncTypeState.{FuncTypeState}
 use Rattle.wasm_entries.specs.declared.func_type.FuncTypeState.TheVariants.{Form, Params, Count, Result}
 
@@ -40,8 +40,8 @@ rest_of_func_type (Count params count) = rest_of_bounded count >>= behind_count 
 rest_of_func_type (Result params) = result_behind params
 
 -- a function type wants a byte
-pub hungry_func_type : (state : FuncTypeState) → IsHungry (rest_of_func_type state)
-hungry_func_type (Form alloc) = hungry_then (λ _. vector_at (tag_at value_type_of) >>= behind_params) (hungry_tag (only 0x60))
-hungry_func_type (Params params) = hungry_then behind_params (hungry_vector (tag_at value_type_of) (λ _. tag_at value_type_of) (λ _. hungry_tag value_type_of) params)
-hungry_func_type (Count params count) = hungry_then (behind_count params) (hungry_bounded count)
-hungry_func_type (Result params) = hungry_then (λ t. give (record { params = params; result = Some t })) (hungry_tag value_type_of)
+pub wants_func_type : (state : FuncTypeState) → WantsAByte (rest_of_func_type state)
+wants_func_type (Form alloc) = wants_then (λ _. vector_at (tag_at value_type_of) >>= behind_params) (wants_tag (only 0x60))
+wants_func_type (Params params) = wants_then behind_params (wants_vector (tag_at value_type_of) (λ _. tag_at value_type_of) (λ _. wants_tag value_type_of) params)
+wants_func_type (Count params count) = wants_then (behind_count params) (wants_bounded count)
+wants_func_type (Result params) = wants_then (λ t. give (record { params = params; result = Some t })) (wants_tag value_type_of)

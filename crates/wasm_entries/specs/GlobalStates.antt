@@ -7,9 +7,9 @@ use Rattle.wasm_reading.specs.Readers.{Reader, ◌>>=◌, give}
 use Rattle.wasm_reading.specs.ReadValues.{tag_at}
 use Rattle.wasm_reading.specs.ReadTypes.{value_type_of, flag_of}
 use Rattle.wasm_reading.specs.ReadInstructions.{constant_at}
-use Rattle.wasm_items.specs.Residuals.{IsHungry}
-use Rattle.wasm_items.specs.Hunger.{hungry_then, hungry_tag}
-use Rattle.wasm_items.specs.ConstantStates.{rest_of_constant, hungry_constant}
+use Rattle.wasm_items.specs.Residuals.{WantsAByte}
+use Rattle.wasm_items.specs.WantsBytes.{wants_then, wants_tag}
+use Rattle.wasm_items.specs.ConstantStates.{rest_of_constant, wants_constant}
 use Rattle.wasm_entries.specs.declared.global.GlobalState.{GlobalState}
 use Rattle.wasm_entries.specs.declared.global.GlobalState.TheVariants.{ValueType, Mutability, Init}
 
@@ -32,7 +32,7 @@ rest_of_global (Mutability alloc t) = behind_type t
 rest_of_global (Init t mutable init) = rest_of_constant init >>= initialized t mutable
 
 -- a global wants a byte
-pub hungry_global : (state : GlobalState) → IsHungry (rest_of_global state)
-hungry_global (ValueType alloc) = hungry_then behind_type (hungry_tag value_type_of)
-hungry_global (Mutability alloc t) = hungry_then (behind_mutability t) (hungry_tag flag_of)
-hungry_global (Init t mutable init) = hungry_then (initialized t mutable) (hungry_constant init)
+pub wants_global : (state : GlobalState) → WantsAByte (rest_of_global state)
+wants_global (ValueType alloc) = wants_then behind_type (wants_tag value_type_of)
+wants_global (Mutability alloc t) = wants_then (behind_mutability t) (wants_tag flag_of)
+wants_global (Init t mutable init) = wants_then (initialized t mutable) (wants_constant init)

@@ -10,11 +10,11 @@ use Rattle.wasm_reading.specs.Readers.{Reader, ◌>>=◌, give}
 use Rattle.wasm_reading.specs.ReadValues.{tag_at, name_at}
 use Rattle.wasm_reading.specs.ReadTypes.{value_type_of, flag_of}
 use Rattle.wasm_reading.specs.ReadModules.{external_kind_of, import_kind_at}
-use Rattle.wasm_items.specs.Residuals.{IsHungry}
-use Rattle.wasm_items.specs.Hunger.{hungry_then, hungry_leb, hungry_tag}
+use Rattle.wasm_items.specs.Residuals.{WantsAByte}
+use Rattle.wasm_items.specs.WantsBytes.{wants_then, wants_leb, wants_tag}
 use Rattle.wasm_items.specs.LebStates.{rest_of_leb}
-use Rattle.wasm_items.specs.LimitsStates.{rest_of_limits, rest_of_table, hungry_limits, hungry_table}
-use Rattle.wasm_items.specs.NameStates.{rest_of_name, hungry_name}
+use Rattle.wasm_items.specs.LimitsStates.{rest_of_limits, rest_of_table, wants_limits, wants_table}
+use Rattle.wasm_items.specs.NameStates.{rest_of_name, wants_name}
 use Rattle.wasm_entries.specs.declared.import.ImportKindState.{ImportKindState}
 use Rattle.wasm_entries.specs.declared.import.ImportKindState.TheVariants.{Func, Table, Memory, ValueType, Mutability}
 use Rattle.wasm_entries.specs.declared.import.ImportState.{ImportState}
@@ -49,12 +49,12 @@ rest_of_import_kind ValueType = tag_at value_type_of >>= behind_type
 rest_of_import_kind (Mutability t) = behind_type t
 
 -- it wants a byte
-pub hungry_import_kind : (state : ImportKindState) → IsHungry (rest_of_import_kind state)
-hungry_import_kind (Func number) = hungry_then give_func (hungry_leb number)
-hungry_import_kind (Table table) = hungry_then give_table (hungry_table table)
-hungry_import_kind (Memory memory) = hungry_then give_memory (hungry_limits memory.limits)
-hungry_import_kind ValueType = hungry_then behind_type (hungry_tag value_type_of)
-hungry_import_kind (Mutability t) = hungry_then (give_global t) (hungry_tag flag_of)
+pub wants_import_kind : (state : ImportKindState) → WantsAByte (rest_of_import_kind state)
+wants_import_kind (Func number) = wants_then give_func (wants_leb number)
+wants_import_kind (Table table) = wants_then give_table (wants_table table)
+wants_import_kind (Memory memory) = wants_then give_memory (wants_limits memory.limits)
+wants_import_kind ValueType = wants_then behind_type (wants_tag value_type_of)
+wants_import_kind (Mutability t) = wants_then (give_global t) (wants_tag flag_of)
 
 -- the import of these names
 abbrev pub named : List ℕ → List ℕ → ImportKind → Reader Import
@@ -80,8 +80,8 @@ rest_of_import (Kind alloc «module» name) = behind_names «module» name
 rest_of_import (What «module» name what) = rest_of_import_kind what >>= named «module» name
 
 -- an import wants a byte
-pub hungry_import : (state : ImportState) → IsHungry (rest_of_import state)
-hungry_import (Module alloc «module») = hungry_then behind_module (hungry_name «module»)
-hungry_import (Name alloc «module» name) = hungry_then (behind_names «module») (hungry_name name)
-hungry_import (Kind alloc «module» name) = hungry_then (behind_kind «module» name) (hungry_tag external_kind_of)
-hungry_import (What «module» name what) = hungry_then (named «module» name) (hungry_import_kind what)
+pub wants_import : (state : ImportState) → WantsAByte (rest_of_import state)
+wants_import (Module alloc «module») = wants_then behind_module (wants_name «module»)
+wants_import (Name alloc «module» name) = wants_then (behind_names «module») (wants_name name)
+wants_import (Kind alloc «module» name) = wants_then (behind_kind «module» name) (wants_tag external_kind_of)
+wants_import (What «module» name what) = wants_then (named «module» name) (wants_import_kind what)

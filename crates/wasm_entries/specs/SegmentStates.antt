@@ -5,11 +5,11 @@ use Rattle.wasm_ast.specs.declared.modules.DataSeg.{DataSeg}
 use Rattle.wasm_reading.specs.Readers.{Reader, ◌>>=◌, give, byte_at}
 use Rattle.wasm_reading.specs.ReadValues.{vector_at}
 use Rattle.wasm_reading.specs.ReadInstructions.{constant_at}
-use Rattle.wasm_items.specs.Residuals.{IsHungry}
-use Rattle.wasm_items.specs.Hunger.{hungry_then, hungry_leb, hungry_byte}
+use Rattle.wasm_items.specs.Residuals.{WantsAByte}
+use Rattle.wasm_items.specs.WantsBytes.{wants_then, wants_leb, wants_byte}
 use Rattle.wasm_items.specs.LebStates.{rest_of_leb}
-use Rattle.wasm_items.specs.ConstantStates.{rest_of_constant, hungry_constant}
-use Rattle.wasm_items.specs.Vectors.{rest_of_vector, hungry_vector}
+use Rattle.wasm_items.specs.ConstantStates.{rest_of_constant, wants_constant}
+use Rattle.wasm_items.specs.Vectors.{rest_of_vector, wants_vector}
 use Rattle.wasm_entries.specs.declared.segment.SegmentState.{SegmentState}
 use Rattle.wasm_entries.specs.declared.segment.SegmentState.TheVariants.{Memory, Offset, Bytes}
 
@@ -32,7 +32,7 @@ rest_of_segment (Offset alloc memory offset) = rest_of_constant offset >>= behin
 rest_of_segment (Bytes memory offset bytes) = rest_of_vector byte_at (λ _. byte_at) bytes >>= filled memory offset
 
 -- a data segment wants a byte
-pub hungry_segment : (state : SegmentState) → IsHungry (rest_of_segment state)
-hungry_segment (Memory alloc number) = hungry_then behind_memory (hungry_leb number)
-hungry_segment (Offset alloc memory offset) = hungry_then (behind_offset memory) (hungry_constant offset)
-hungry_segment (Bytes memory offset bytes) = hungry_then (filled memory offset) (hungry_vector byte_at (λ _. byte_at) (λ _. hungry_byte) bytes)
+pub wants_segment : (state : SegmentState) → WantsAByte (rest_of_segment state)
+wants_segment (Memory alloc number) = wants_then behind_memory (wants_leb number)
+wants_segment (Offset alloc memory offset) = wants_then (behind_offset memory) (wants_constant offset)
+wants_segment (Bytes memory offset bytes) = wants_then (filled memory offset) (wants_vector byte_at (λ _. byte_at) (λ _. wants_byte) bytes)

@@ -23,7 +23,7 @@ pub enum ElementState {
 
 impl Item for ElementState {
     ghost use Rattle.wasm_reading.specs.ReadModules.{element_at};
-    ghost use Rattle.wasm_entries.specs.ElementStates.{rest_of_element, hungry_element};
+    ghost use Rattle.wasm_entries.specs.ElementStates.{rest_of_element, wants_element};
 
     type Value = ElemSeg;
 
@@ -31,7 +31,7 @@ impl Item for ElementState {
 
     ghost rest_of = { rest_of_element };
 
-    ghost wants = { hungry_element };
+    ghost wants = { wants_element };
 
     fn start(alloc: Global) -> ElementState {
         ElementState::Table(alloc, Leb32::unsigned())

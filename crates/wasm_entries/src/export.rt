@@ -18,7 +18,7 @@ pub enum ExportState {
 
 impl Item for ExportState {
     ghost use Rattle.wasm_reading.specs.ReadModules.{export_at};
-    ghost use Rattle.wasm_entries.specs.ExportStates.{rest_of_export, hungry_export};
+    ghost use Rattle.wasm_entries.specs.ExportStates.{rest_of_export, wants_export};
 
     type Value = Export;
 
@@ -26,7 +26,7 @@ impl Item for ExportState {
 
     ghost rest_of = { rest_of_export };
 
-    ghost wants = { hungry_export };
+    ghost wants = { wants_export };
 
     fn start(alloc: Global) -> ExportState {
         ExportState::Name(NameState::start(alloc))

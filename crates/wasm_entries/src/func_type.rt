@@ -21,7 +21,7 @@ pub enum FuncTypeState {
 
 impl Item for FuncTypeState {
     ghost use Rattle.wasm_reading.specs.ReadTypes.{func_type_at};
-    ghost use Rattle.wasm_entries.specs.FuncTypeStates.{rest_of_func_type, hungry_func_type};
+    ghost use Rattle.wasm_entries.specs.FuncTypeStates.{rest_of_func_type, wants_func_type};
 
     type Value = FuncType;
 
@@ -29,7 +29,7 @@ impl Item for FuncTypeState {
 
     ghost rest_of = { rest_of_func_type };
 
-    ghost wants = { hungry_func_type };
+    ghost wants = { wants_func_type };
 
     fn start(alloc: Global) -> FuncTypeState {
         FuncTypeState::Form(alloc)

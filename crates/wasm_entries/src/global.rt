@@ -23,7 +23,7 @@ pub enum GlobalState {
 
 impl Item for GlobalState {
     ghost use Rattle.wasm_reading.specs.ReadModules.{global_at};
-    ghost use Rattle.wasm_entries.specs.GlobalStates.{rest_of_global, hungry_global};
+    ghost use Rattle.wasm_entries.specs.GlobalStates.{rest_of_global, wants_global};
 
     type Value = WGlobal;
 
@@ -31,7 +31,7 @@ impl Item for GlobalState {
 
     ghost rest_of = { rest_of_global };
 
-    ghost wants = { hungry_global };
+    ghost wants = { wants_global };
 
     fn start(alloc: Global) -> GlobalState {
         GlobalState::ValueType(alloc)

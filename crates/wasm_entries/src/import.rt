@@ -87,7 +87,7 @@ pub enum ImportState {
 
 impl Item for ImportState {
     ghost use Rattle.wasm_reading.specs.ReadModules.{import_at};
-    ghost use Rattle.wasm_entries.specs.ImportStates.{rest_of_import, hungry_import};
+    ghost use Rattle.wasm_entries.specs.ImportStates.{rest_of_import, wants_import};
 
     type Value = Import;
 
@@ -95,7 +95,7 @@ impl Item for ImportState {
 
     ghost rest_of = { rest_of_import };
 
-    ghost wants = { hungry_import };
+    ghost wants = { wants_import };
 
     fn start(alloc: Global) -> ImportState {
         ImportState::Module(alloc, NameState::start(alloc))

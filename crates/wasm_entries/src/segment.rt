@@ -22,7 +22,7 @@ pub enum SegmentState {
 
 impl Item for SegmentState {
     ghost use Rattle.wasm_reading.specs.ReadModules.{segment_at};
-    ghost use Rattle.wasm_entries.specs.SegmentStates.{rest_of_segment, hungry_segment};
+    ghost use Rattle.wasm_entries.specs.SegmentStates.{rest_of_segment, wants_segment};
 
     type Value = DataSeg;
 
@@ -30,7 +30,7 @@ impl Item for SegmentState {
 
     ghost rest_of = { rest_of_segment };
 
-    ghost wants = { hungry_segment };
+    ghost wants = { wants_segment };
 
     fn start(alloc: Global) -> SegmentState {
         SegmentState::Memory(alloc, Leb32::unsigned())

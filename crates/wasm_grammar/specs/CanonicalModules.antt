@@ -1,6 +1,6 @@
 -- The canonical bytes of a module: each number in its least spelling, no custom section, and no section
 -- without entries (WebAssembly Core Specification 1.0, section 5.5).
-use Rattle.std.specs.Prelude.{ℕ, ◌==◌, if◌then◌else◌, List, [], ◌∷◌, ◌++◌, length, Option, Some, None}
+use Rattle.std.specs.Prelude.{ℕ, ◌^◌, ◌<◌, ◌==◌, if◌then◌else◌, List, [], ◌∷◌, ◌++◌, length, Option, Some, None}
 use Rattle.wasm_leb.specs.Leb.{unsigned_least}
 use Rattle.wasm_ast.specs.declared.modules.Import.{Import}
 use Rattle.wasm_ast.specs.declared.modules.ImportKind.{ImportKind}
@@ -118,6 +118,10 @@ content_of id m =
     else (if id == 9 then element_content m
     else (if id == 10 then code_content m
     else (if id == 11 then data_content m else []))))))))))
+
+-- each section's content has fewer than 2 ^ 32 bytes
+abbrev pub HasShortContents : WModule → Type 0
+HasShortContents m = (id : ℕ) → length (content_of id m) < 2 ^ 32
 
 -- a section: its id, the length of its content, and its content
 abbrev pub section_bytes : ℕ → List ℕ → List ℕ

@@ -68,10 +68,14 @@ ExportFits e = NameFits e.name × FitsU32 e.index
 abbrev pub ElementFits : ElemSeg → Type 0
 ElementFits s = FitsU32 s.table × ConstantFits s.offset × IsShortListOf FitsU32 s.funcs
 
+-- how many locals some runs declare
+abbrev pub local_total : List LocalRun → ℕ
+local_total runs = sum_by (λ (r : LocalRun). r.count) runs
+
 -- the locals and the body of a function
 pub record CodeFits (c : Code) : Type 0 where
   pub locals : IsShortListOf (λ (r : LocalRun). FitsU32 r.count) c.locals
-  pub local_count : sum_by (λ (r : LocalRun). r.count) c.locals ≤ local_limit
+  pub local_count : local_total c.locals ≤ local_limit
   pub body_length : length c.body < 2 ^ 32
   pub body : InstructionsFit c.body
 

@@ -4,8 +4,8 @@ use Rattle.wasm_reading.specs.declared.fault.DecodeFault.TheVariants.{LimitOutsi
 use Rattle.wasm_reading.specs.Readers.{Reader, ◌>>=◌, give, fail}
 use Rattle.wasm_reading.specs.ReadValues.{u32_at}
 use Rattle.wasm_items.specs.declared.bounded.BoundedState.{BoundedState}
-use Rattle.wasm_items.specs.Residuals.{IsHungry}
-use Rattle.wasm_items.specs.Hunger.{hungry_then, hungry_leb}
+use Rattle.wasm_items.specs.Residuals.{WantsAByte}
+use Rattle.wasm_items.specs.WantsBytes.{wants_then, wants_leb}
 use Rattle.wasm_items.specs.LebStates.{rest_of_leb}
 
 -- a number that is at most so much, or one that is not, whose first byte stands at `place`
@@ -21,5 +21,5 @@ abbrev pub rest_of_bounded : BoundedState → Reader ℕ
 rest_of_bounded state = rest_of_leb state.number >>= bounded state.most state.place
 
 -- it wants a byte
-pub hungry_bounded : (state : BoundedState) → IsHungry (rest_of_bounded state)
-hungry_bounded state = hungry_then (bounded state.most state.place) (hungry_leb state.number)
+pub wants_bounded : (state : BoundedState) → WantsAByte (rest_of_bounded state)
+wants_bounded state = wants_then (bounded state.most state.place) (wants_leb state.number)

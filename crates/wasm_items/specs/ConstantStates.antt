@@ -5,9 +5,9 @@ use Rattle.wasm_reading.specs.ReadValues.{tag_at, only}
 use Rattle.wasm_reading.specs.ReadInstructions.{constant_at, constant_kind_of, plain_at}
 use Rattle.wasm_items.specs.declared.constant.ConstantState.{ConstantState}
 use Rattle.wasm_items.specs.declared.constant.ConstantState.TheVariants.{Opcode, Instruction, End}
-use Rattle.wasm_items.specs.Residuals.{IsHungry}
-use Rattle.wasm_items.specs.Hunger.{hungry_then, hungry_here, hungry_byte, hungry_tag}
-use Rattle.wasm_items.specs.ImmediateStates.{rest_of_immediates, hungry_immediates}
+use Rattle.wasm_items.specs.Residuals.{WantsAByte}
+use Rattle.wasm_items.specs.WantsBytes.{wants_then, wants_here, wants_byte, wants_tag}
+use Rattle.wasm_items.specs.ImmediateStates.{rest_of_immediates, wants_immediates}
 
 -- the end behind an instruction
 abbrev pub end_behind : WInstr → Reader WInstr
@@ -22,7 +22,7 @@ rest_of_constant (Instruction immediates) = rest_of_immediates immediates >>= en
 rest_of_constant (End instruction) = end_behind instruction
 
 -- a constant expression wants a byte
-pub hungry_constant : (state : ConstantState) → IsHungry (rest_of_constant state)
-hungry_constant (Opcode alloc) = hungry_here (λ place. hungry_then (λ opcode. plain_at place opcode (constant_kind_of opcode) >>= end_behind) hungry_byte)
-hungry_constant (Instruction immediates) = hungry_then end_behind (hungry_immediates immediates)
-hungry_constant (End instruction) = hungry_then (λ _. give instruction) (hungry_tag (only 0x0B))
+pub wants_constant : (state : ConstantState) → WantsAByte (rest_of_constant state)
+wants_constant (Opcode alloc) = wants_here (λ place. wants_then (λ opcode. plain_at place opcode (constant_kind_of opcode) >>= end_behind) wants_byte)
+wants_constant (Instruction immediates) = wants_then end_behind (wants_immediates immediates)
+wants_constant (End instruction) = wants_then (λ _. give instruction) (wants_tag (only 0x0B))

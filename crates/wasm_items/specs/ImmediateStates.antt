@@ -12,10 +12,10 @@ use Rattle.wasm_items.specs.declared.immediates.Immediate.{Immediate}
 use Rattle.wasm_items.specs.declared.immediates.Immediate.TheVariants.{Number, Labels, Const64, Zero, TypeZero}
 use Rattle.wasm_items.specs.declared.immediates.NumberOf.{NumberOf}
 use Rattle.wasm_items.specs.declared.immediates.NumberOf.TheVariants.{Index, Default, TypeIndex, Alignment, Offset, Const32}
-use Rattle.wasm_items.specs.Residuals.{IsHungry}
-use Rattle.wasm_items.specs.Hunger.{hungry_then, hungry_leb, hungry_tag}
+use Rattle.wasm_items.specs.Residuals.{WantsAByte}
+use Rattle.wasm_items.specs.WantsBytes.{wants_then, wants_leb, wants_tag}
 use Rattle.wasm_items.specs.LebStates.{rest_of_leb}
-use Rattle.wasm_items.specs.Vectors.{rest_of_vector, hungry_vector}
+use Rattle.wasm_items.specs.Vectors.{rest_of_vector, wants_vector}
 
 -- what is read behind a number of 32 bits
 abbrev pub behind_number : NumberOf → ℕ → Reader (ast.Immediate WInstr)
@@ -53,12 +53,12 @@ made_of place (Some instruction) = give instruction
 made_of place None = fail BadTag place
 
 -- immediates want a byte
-pub hungry_immediate : (next : Immediate) → IsHungry (rest_of_immediate next)
-hungry_immediate (Number what number) = hungry_then (behind_number what) (hungry_leb number)
-hungry_immediate (Labels labels) = hungry_then (λ labels. u32_at >>= (λ default. give (ast.Labels labels default))) (hungry_vector u32_at rest_of_leb hungry_leb labels)
-hungry_immediate (Const64 number) = hungry_then (λ n. give (ast.Const64 n)) (hungry_leb number)
-hungry_immediate Zero = hungry_then (λ _. give ast.Zero) (hungry_tag (only 0x00))
-hungry_immediate (TypeZero n) = hungry_then (λ _. give (ast.IndexZero n)) (hungry_tag (only 0x00))
+pub wants_immediate : (next : Immediate) → WantsAByte (rest_of_immediate next)
+wants_immediate (Number what number) = wants_then (behind_number what) (wants_leb number)
+wants_immediate (Labels labels) = wants_then (λ labels. u32_at >>= (λ default. give (ast.Labels labels default))) (wants_vector u32_at rest_of_leb wants_leb labels)
+wants_immediate (Const64 number) = wants_then (λ n. give (ast.Const64 n)) (wants_leb number)
+wants_immediate Zero = wants_then (λ _. give ast.Zero) (wants_tag (only 0x00))
+wants_immediate (TypeZero n) = wants_then (λ _. give (ast.IndexZero n)) (wants_tag (only 0x00))
 
-pub hungry_immediates : (state : Immediates) → IsHungry (rest_of_immediates state)
-hungry_immediates state = hungry_then (λ immediate. made state.place (instruction_at state.opcode immediate)) (hungry_immediate state.next)
+pub wants_immediates : (state : Immediates) → WantsAByte (rest_of_immediates state)
+wants_immediates state = wants_then (λ immediate. made state.place (instruction_at state.opcode immediate)) (wants_immediate state.next)

@@ -1,6 +1,6 @@
 pub mod Residuals
 pub mod LebStates
-pub mod Hunger
+pub mod WantsBytes
 pub mod Vectors
 pub mod BoundedStates
 pub mod LimitsStates

@@ -9,9 +9,9 @@ use Rattle.wasm_items.specs.declared.limits.LimitsState.{LimitsState}
 use Rattle.wasm_items.specs.declared.limits.LimitsState.TheVariants.{Flag, Minimum, Maximum}
 use Rattle.wasm_items.specs.declared.limits.TableState.{TableState}
 use Rattle.wasm_items.specs.declared.limits.TableState.TheVariants.{EntryType, Limits}
-use Rattle.wasm_items.specs.BoundedStates.{rest_of_bounded, hungry_bounded}
-use Rattle.wasm_items.specs.Residuals.{IsHungry}
-use Rattle.wasm_items.specs.Hunger.{hungry_then, hungry_leb, hungry_tag}
+use Rattle.wasm_items.specs.BoundedStates.{rest_of_bounded, wants_bounded}
+use Rattle.wasm_items.specs.Residuals.{WantsAByte}
+use Rattle.wasm_items.specs.WantsBytes.{wants_then, wants_leb, wants_tag}
 use Rattle.wasm_items.specs.LebStates.{rest_of_leb}
 
 -- what is read behind a minimum
@@ -29,10 +29,10 @@ rest_of_limits (Maximum minimum number) = do
   give (record { min = minimum; max = Some n })
 
 -- limits want a byte
-pub hungry_limits : (state : LimitsState) → IsHungry (rest_of_limits state)
-hungry_limits (Flag most) = hungry_then (λ has_maximum. at_most most >>= behind_minimum has_maximum) (hungry_tag flag_of)
-hungry_limits (Minimum minimum has_maximum) = hungry_then (behind_minimum has_maximum) (hungry_bounded minimum)
-hungry_limits (Maximum minimum number) = hungry_then (λ n. give (record { min = minimum; max = Some n })) (hungry_leb number)
+pub wants_limits : (state : LimitsState) → WantsAByte (rest_of_limits state)
+wants_limits (Flag most) = wants_then (λ has_maximum. at_most most >>= behind_minimum has_maximum) (wants_tag flag_of)
+wants_limits (Minimum minimum has_maximum) = wants_then (behind_minimum has_maximum) (wants_bounded minimum)
+wants_limits (Maximum minimum number) = wants_then (λ n. give (record { min = minimum; max = Some n })) (wants_leb number)
 
 -- a table type in the middle
 abbrev pub rest_of_table : TableState → Reader ast.Limits
@@ -40,6 +40,6 @@ rest_of_table EntryType = table_at
 rest_of_table (Limits limits) = rest_of_limits limits
 
 -- a table type wants a byte
-pub hungry_table : (state : TableState) → IsHungry (rest_of_table state)
-hungry_table EntryType = hungry_then (λ _. limits_at entry_limit) (hungry_tag (only 0x70))
-hungry_table (Limits limits) = hungry_limits limits
+pub wants_table : (state : TableState) → WantsAByte (rest_of_table state)
+wants_table EntryType = wants_then (λ _. limits_at entry_limit) (wants_tag (only 0x70))
+wants_table (Limits limits) = wants_limits limits

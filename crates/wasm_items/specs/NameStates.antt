@@ -4,9 +4,9 @@ use Rattle.std.specs.Str.{is_utf8}
 use Rattle.wasm_reading.specs.declared.fault.DecodeFault.TheVariants.{BadUtf8}
 use Rattle.wasm_reading.specs.Readers.{Reader, ◌>>=◌, give, fail, here, byte_at}
 use Rattle.wasm_items.specs.declared.name.NameState.{NameState}
-use Rattle.wasm_items.specs.Residuals.{IsHungry}
-use Rattle.wasm_items.specs.Hunger.{hungry_then, hungry_byte}
-use Rattle.wasm_items.specs.Vectors.{rest_of_vector, hungry_vector}
+use Rattle.wasm_items.specs.Residuals.{WantsAByte}
+use Rattle.wasm_items.specs.WantsBytes.{wants_then, wants_byte}
+use Rattle.wasm_items.specs.Vectors.{rest_of_vector, wants_vector}
 
 -- a name, or bytes that are none, of which the first stands at `place`
 abbrev pub checked : ℕ → List ℕ → Reader (List ℕ)
@@ -23,5 +23,5 @@ abbrev pub rest_of_name : NameState → Reader (List ℕ)
 rest_of_name name = rest_of_vector byte_at (λ _. byte_at) name.bytes >>= checked_behind
 
 -- a name wants a byte
-pub hungry_name : (name : NameState) → IsHungry (rest_of_name name)
-hungry_name name = hungry_then checked_behind (hungry_vector byte_at (λ _. byte_at) (λ _. hungry_byte) name.bytes)
+pub wants_name : (name : NameState) → WantsAByte (rest_of_name name)
+wants_name name = wants_then checked_behind (wants_vector byte_at (λ _. byte_at) (λ _. wants_byte) name.bytes)

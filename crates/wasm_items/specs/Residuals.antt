@@ -48,5 +48,5 @@ placed at (Ok value) = Ok value
 placed at (Err fault) = Err (record { at = at; fault = fault })
 
 -- A reader that wants a byte first: where there is none, the fault is its fault.
-pub record IsHungry {A : Type 0} (reader : Reader A) : Type 0 where
+pub record WantsAByte {A : Type 0} (reader : Reader A) : Type 0 where
   pub wants : (input : Input) (e : DecodeError) → byte_at input ≡ Err e → reader input ≡ Err e

@@ -5,8 +5,8 @@ use Rattle.wasm_items.specs.declared.vector.VectorState.{VectorState}
 use Rattle.wasm_items.specs.declared.vector.Next.{Next}
 use Rattle.wasm_items.specs.declared.vector.Next.TheVariants.{Count, Entry}
 use Rattle.wasm_items.specs.LebStates.{rest_of_leb}
-use Rattle.wasm_items.specs.Residuals.{IsHungry}
-use Rattle.wasm_items.specs.Hunger.{hungry_then, hungry_leb}
+use Rattle.wasm_items.specs.Residuals.{WantsAByte}
+use Rattle.wasm_items.specs.WantsBytes.{wants_then, wants_leb}
 
 -- entries so far, and so many more
 abbrev pub more_at : {A : Type 0} → Reader A → List A → ℕ → Reader (List A)
@@ -28,9 +28,9 @@ abbrev pub rest_of_vector : {S A : Type 0} → Reader A → (S → Reader A) →
 rest_of_vector item rest_of vector = rest_of_next item rest_of vector.before vector.next
 
 -- it wants a byte, where an entry does
-pub hungry_next : {S A : Type 0} (item : Reader A) (rest_of : S → Reader A) → ((entry : S) → IsHungry (rest_of entry)) → (before : List A) (next : Next S) → IsHungry (rest_of_next item rest_of before next)
-hungry_next item rest_of wants before (Count number) = hungry_then (more_at item before) (hungry_leb number)
-hungry_next item rest_of wants before (Entry entry behind) = hungry_then (λ x. more_at item (before ++ x ∷ []) behind) (wants entry)
+pub wants_next : {S A : Type 0} (item : Reader A) (rest_of : S → Reader A) → ((entry : S) → WantsAByte (rest_of entry)) → (before : List A) (next : Next S) → WantsAByte (rest_of_next item rest_of before next)
+wants_next item rest_of wants before (Count number) = wants_then (more_at item before) (wants_leb number)
+wants_next item rest_of wants before (Entry entry behind) = wants_then (λ x. more_at item (before ++ x ∷ []) behind) (wants entry)
 
-pub hungry_vector : {S A : Type 0} (item : Reader A) (rest_of : S → Reader A) → ((entry : S) → IsHungry (rest_of entry)) → (vector : VectorState S A) → IsHungry (rest_of_vector item rest_of vector)
-hungry_vector item rest_of wants vector = hungry_next item rest_of wants vector.before vector.next
+pub wants_vector : {S A : Type 0} (item : Reader A) (rest_of : S → Reader A) → ((entry : S) → WantsAByte (rest_of entry)) → (vector : VectorState S A) → WantsAByte (rest_of_vector item rest_of vector)
+wants_vector item rest_of wants vector = wants_next item rest_of wants vector.before vector.next

@@ -21,7 +21,7 @@ pub enum ConstantState {
 
 impl Item for ConstantState {
     ghost use Rattle.wasm_reading.specs.ReadInstructions.{constant_at};
-    ghost use Rattle.wasm_items.specs.ConstantStates.{rest_of_constant, hungry_constant};
+    ghost use Rattle.wasm_items.specs.ConstantStates.{rest_of_constant, wants_constant};
 
     type Value = WInstr;
 
@@ -29,7 +29,7 @@ impl Item for ConstantState {
 
     ghost rest_of = { rest_of_constant };
 
-    ghost wants = { hungry_constant };
+    ghost wants = { wants_constant };
 
     fn start(alloc: Global) -> ConstantState {
         ConstantState::Opcode(alloc)

@@ -1,5 +1,5 @@
 ghost use Rattle.std.specs.Prelude.{◌≡◌, ◌+◌, ◌<◌, ◌^◌};
-ghost use Rattle.wasm_items.specs.Residuals.{Pushes, IsHungry};
+ghost use Rattle.wasm_items.specs.Residuals.{Pushes, WantsAByte};
 
 use crate::leb::Leb32;
 use crate::progress::Progress;
@@ -28,13 +28,13 @@ pub trait Item: Drop {
         ensures { Pushes rest_of (rest_of self) byte at result };
 
     /// Each state wants a byte.
-    ghost wants: { (state : Self) → IsHungry (rest_of state) };
+    ghost wants: { (state : Self) → WantsAByte (rest_of state) };
 }
 
 impl Item for Leb32 {
     ghost use Rattle.wasm_reading.specs.ReadValues.{u32_at};
     ghost use Rattle.wasm_items.specs.LebStates.{rest_of_leb};
-    ghost use Rattle.wasm_items.specs.Hunger.{hungry_leb};
+    ghost use Rattle.wasm_items.specs.WantsBytes.{wants_leb};
 
     type Value = u32;
 
@@ -42,7 +42,7 @@ impl Item for Leb32 {
 
     ghost rest_of = { rest_of_leb };
 
-    ghost wants = { hungry_leb };
+    ghost wants = { wants_leb };
 
     fn start(_alloc: Global) -> Leb32 {
         Leb32::unsigned()

@@ -86,7 +86,7 @@ pub struct MemoryState {
 
 impl Item for MemoryState {
     ghost use Rattle.wasm_reading.specs.ReadTypes.{memory_at};
-    ghost use Rattle.wasm_items.specs.LimitsStates.{rest_of_limits, hungry_limits};
+    ghost use Rattle.wasm_items.specs.LimitsStates.{rest_of_limits, wants_limits};
 
     type Value = Limits;
 
@@ -94,7 +94,7 @@ impl Item for MemoryState {
 
     ghost rest_of = { λ state. rest_of_limits state.limits };
 
-    ghost wants = { λ state. hungry_limits state.limits };
+    ghost wants = { λ state. wants_limits state.limits };
 
     fn start(_alloc: Global) -> MemoryState {
         MemoryState {
@@ -120,7 +120,7 @@ pub enum TableState {
 
 impl Item for TableState {
     ghost use Rattle.wasm_reading.specs.ReadTypes.{table_at};
-    ghost use Rattle.wasm_items.specs.LimitsStates.{rest_of_table, hungry_table};
+    ghost use Rattle.wasm_items.specs.LimitsStates.{rest_of_table, wants_table};
 
     type Value = Limits;
 
@@ -128,7 +128,7 @@ impl Item for TableState {
 
     ghost rest_of = { rest_of_table };
 
-    ghost wants = { hungry_table };
+    ghost wants = { wants_table };
 
     fn start(_alloc: Global) -> TableState {
         TableState::EntryType

@@ -19,7 +19,7 @@ pub struct NameState {
 
 impl Item for NameState {
     ghost use Rattle.wasm_reading.specs.ReadValues.{name_at};
-    ghost use Rattle.wasm_items.specs.NameStates.{rest_of_name, hungry_name};
+    ghost use Rattle.wasm_items.specs.NameStates.{rest_of_name, wants_name};
 
     type Value = List<u8>;
 
@@ -27,7 +27,7 @@ impl Item for NameState {
 
     ghost rest_of = { rest_of_name };
 
-    ghost wants = { hungry_name };
+    ghost wants = { wants_name };
 
     fn start(alloc: Global) -> NameState {
         NameState {

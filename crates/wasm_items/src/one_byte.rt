@@ -11,7 +11,7 @@ pub struct ByteState {}
 
 impl Item for ByteState {
     ghost use Rattle.wasm_reading.specs.Readers.{byte_at};
-    ghost use Rattle.wasm_items.specs.Hunger.{hungry_byte};
+    ghost use Rattle.wasm_items.specs.WantsBytes.{wants_byte};
 
     type Value = u8;
 
@@ -19,7 +19,7 @@ impl Item for ByteState {
 
     ghost rest_of = { λ _. byte_at };
 
-    ghost wants = { λ _. hungry_byte };
+    ghost wants = { λ _. wants_byte };
 
     fn start(_alloc: Global) -> ByteState {
         ByteState {}
@@ -37,7 +37,7 @@ pub struct ValueTypeState {}
 impl Item for ValueTypeState {
     ghost use Rattle.wasm_reading.specs.ReadValues.{tag_at};
     ghost use Rattle.wasm_reading.specs.ReadTypes.{value_type_of};
-    ghost use Rattle.wasm_items.specs.Hunger.{hungry_tag};
+    ghost use Rattle.wasm_items.specs.WantsBytes.{wants_tag};
 
     type Value = ValTy;
 
@@ -45,7 +45,7 @@ impl Item for ValueTypeState {
 
     ghost rest_of = { λ _. tag_at value_type_of };
 
-    ghost wants = { λ _. hungry_tag value_type_of };
+    ghost wants = { λ _. wants_tag value_type_of };
 
     fn start(_alloc: Global) -> ValueTypeState {
         ValueTypeState {}

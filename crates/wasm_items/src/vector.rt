@@ -37,7 +37,7 @@ enum Next<T> {
 
 impl<T: Item> Item for VectorState<T> {
     ghost use Rattle.wasm_reading.specs.ReadValues.{vector_at};
-    ghost use Rattle.wasm_items.specs.Vectors.{rest_of_vector, hungry_vector};
+    ghost use Rattle.wasm_items.specs.Vectors.{rest_of_vector, wants_vector};
 
     type Value = List<T::Value>;
 
@@ -45,7 +45,7 @@ impl<T: Item> Item for VectorState<T> {
 
     ghost rest_of = { rest_of_vector T.reader T.rest_of };
 
-    ghost wants = { hungry_vector T.reader T.rest_of T.wants };
+    ghost wants = { wants_vector T.reader T.rest_of T.wants };
 
     fn start(alloc: Global) -> VectorState<T> {
         VectorState {

@@ -1,11 +1,15 @@
 -- The rows, computed.
 use Rattle.std.proofs.Common.{refl}
 use Rattle.wasm_ast.specs.declared.instructions.WInstr.{out-WInstr}
-use Rattle.wasm_meaning.specs.Rows.{AddingTakes, DroppingTakes, ExhaustedTakes, PrintingTakes}
+use Rattle.wasm_meaning.specs.Rows.{AddingTakes, DroppingTakes, ExhaustedTakes, PrintingTakes, StartingTakes}
 
 pub printing-takes : PrintingTakes
 unfolding out-WInstr denote.Hole.Carrier.out
 printing-takes = record { before = refl; after = refl }
+
+pub starting-takes : StartingTakes
+unfolding out-WInstr denote.Hole.Carrier.out
+starting-takes = record { before = refl; after = refl }
 
 pub dropping-takes : DroppingTakes
 unfolding out-WInstr denote.Hole.Carrier.out

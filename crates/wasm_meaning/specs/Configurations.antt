@@ -3,13 +3,13 @@
 use Rattle.std.specs.Prelude.{ℕ, List, Option}
 use Rattle.wasm_ast.specs.declared.instructions.WInstr.{WInstr}
 
--- where a branch to an open list leads: past its end, or to its start (4.4.5)
+-- where a branch to an open list leads: past its end, or to its start (4.2.12, the continuation of a label)
 pub data Aim : Type 0 where
   Past : Aim
   Back : List WInstr → Aim
 
 -- an open list: where a branch to it leads and how many operands it takes, how many its end leaves, and of the list around
--- it the operands, the top one first, and what is left (4.2.13)
+-- it the operands, the top one first, and what is left (4.2.12, labels)
 pub record Level : Type 0 where
   pub aim : Aim
   pub takes : ℕ
@@ -17,11 +17,10 @@ pub record Level : Type 0 where
   pub beneath : List ℕ
   pub rest : List WInstr
 
--- a call that runs: its function, its first argument or 0, its locals, the operands, the top one first, and what is left of
--- the list, and the open lists, the innermost first (4.2.14)
+-- a call that runs: its function, its locals, the operands, the top one first, what is left of the list, and the open lists,
+-- the innermost first (4.2.12, frames)
 pub record Here : Type 0 where
   pub function : ℕ
-  pub argument : ℕ
   pub locals : List ℕ
   pub operands : List ℕ
   pub rest : List WInstr
@@ -38,7 +37,7 @@ pub record Store : Type 0 where
   pub table : List (Option ℕ)
   pub globals : List ℕ
 
--- the call that runs, those that wait for it, the innermost first, what follows them, and the store
+-- the call that runs, those that wait for it, the innermost first, what follows them, and the store (4.2.13)
 pub record Config : Type 0 where
   pub here : Here
   pub callers : List Here

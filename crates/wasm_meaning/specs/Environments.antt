@@ -2,7 +2,6 @@
 use Rattle.std.specs.Prelude.{ℕ, Bool, true, false, List, [], ◌∷◌, ◌++◌, Option, Some, None, codes, slice_get, if◌then◌else◌}
 use Rattle.std.specs.Str.{bytes_eq}
 use Rattle.wasm_ast.specs.declared.types.FuncType.{FuncType}
-use Rattle.wasm_ast.specs.declared.types.Limits.{Limits}
 use Rattle.wasm_ast.specs.declared.modules.Code.{Code}
 use Rattle.wasm_ast.specs.declared.modules.Export.{Export}
 use Rattle.wasm_ast.specs.declared.modules.ExportKind.{ExportKind}
@@ -17,11 +16,9 @@ pub record Function : Type 0 where
   pub ty : FuncType
   pub code : Option Code
 
--- the types, the functions, the limits of memories, and the global that tells why `unreachable` was reached, where there is one
+-- the functions, and the global that tells why `unreachable` was reached, where there is one
 pub record Environment : Type 0 where
-  pub types : List FuncType
   pub functions : List Function
-  pub memories : List Limits
   pub trap_code : Option ℕ
 
 -- the function of this type index and code
@@ -57,8 +54,6 @@ exported is_kind name (e ∷ es) = if is_kind e.kind then (if bytes_eq name e.na
 
 abbrev pub environment_of : WModule → Environment
 environment_of m = record {
-  types = m.types;
   functions = imported_functions m.types m.imports ++ own_functions m.types m.funcs m.codes;
-  memories = m.memories;
   trap_code = exported is_global (codes "trap_code") m.exports;
 }

@@ -36,6 +36,10 @@ module_with trap_code body = record {
 abbrev pub printing : WModule
 printing = module_with 0 (w.I64Const 7 ∷ w.LocalSet 0 ∷ w.LocalGet 0 ∷ w.Call 0 ∷ w.I64Const 0 ∷ w.LocalSet 0 ∷ w.LocalGet 0 ∷ w.GlobalSet 1 ∷ [])
 
+-- function 1 is the start function too
+abbrev pub starting : WModule
+starting = record printing { start = Some 1 }
+
 -- 1 is dropped, and 0 is the result
 abbrev pub dropping : WModule
 dropping = module_with 0 (w.I64Const 1 ∷ w.LocalSet 0 ∷ w.Nop ∷ w.I64Const 0 ∷ w.LocalSet 0 ∷ w.LocalGet 0 ∷ w.GlobalSet 1 ∷ [])
@@ -66,6 +70,10 @@ number n = Value (cast_signed w64 n)
 
 abbrev pub PrintingTakes : Type 0
 PrintingTakes = Takes printing 12 (7 ∷ []) (number 0)
+
+-- 7 is printed before `main` is called, and again
+abbrev pub StartingTakes : Type 0
+StartingTakes = Takes starting 21 (7 ∷ 7 ∷ []) (number 0)
 
 abbrev pub DroppingTakes : Type 0
 DroppingTakes = Takes dropping 11 [] (number 0)

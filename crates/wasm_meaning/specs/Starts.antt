@@ -1,4 +1,5 @@
--- How a module begins to run (WebAssembly Core Specification 1.0, section 4.5).
+-- How a module begins to run: its instantiation, and the invocation of its exported `main` (WebAssembly Core Specification 1.0,
+-- sections 4.5.4 and 4.5.5).
 use Rattle.std.specs.Prelude.{ℕ, ◌+◌, ◌*◌, List, [], ◌∷◌, ◌++◌, Option, Some, None, length, map, take, drop, replicate, codes, slice_get}
 use Rattle.wasm_ast.specs.declared.instructions.WInstr.{WInstr, out-WInstr}
 use Rattle.wasm_ast.specs.declared.instructions.WInstr.TheOpen.{WInstr-F}
@@ -9,18 +10,18 @@ use Rattle.wasm_ast.specs.declared.modules.WGlobal.{WGlobal}
 use Rattle.wasm_ast.specs.declared.modules.WModule.{WModule}
 use Rattle.machine_steps.specs.Steps.{Stuck, Turn, Went, reached}
 use Rattle.machine_steps.specs.Agreement.{Seen, seen}
-use Rattle.wasm_meaning.specs.Configurations.{TheEnd, Store, Config, Event}
+use Rattle.wasm_meaning.specs.Configurations.{Bottom, TheEnd, ThenCall, Store, Config, Event}
 use Rattle.wasm_meaning.specs.Environments.{environment_of, exported, is_func}
 use Rattle.wasm_meaning.specs.Steps.{enter, step, prints}
 
--- the value of a constant expression over the globals before it (4.5.3)
+-- the value of a constant expression over these globals (4.4.8)
 abbrev pub value_in : List ℕ → WInstr-F WInstr → ℕ
 value_in globals (WInstr-F.I32Const n) = n
 value_in globals (WInstr-F.I64Const n) = n
 value_in globals (WInstr-F.GlobalGet n) = elim (slice_get globals n) [ None ↦ 0 | Some v ↦ v ]
 value_in globals _ = 0
 
--- this project's modules import no global, so that an initial value is a constant
+-- the first values of the globals, which are constants: this project's modules import no global
 abbrev pub first_globals : List WGlobal → List ℕ
 first_globals gs = map (λ g. value_in [] (out-WInstr g.init)) gs
 
@@ -58,12 +59,20 @@ abbrev pub seen_after : WModule → ℕ → Turn Event Config → Seen
 seen_after m n (Went es c) = seen prints (reached (step (environment_of m)) n c)
 seen_after m n _ = record { printed = []; stand = Stuck }
 
--- what is seen of a module after so many steps of its exported `main`, which takes nothing
+-- what is seen of a module after so many steps of a function that takes nothing, and of what follows it
+abbrev pub seen_of : WModule → ℕ → ℕ → Bottom → Seen
+seen_of m n called bottom = elim (slice_get (environment_of m).functions called) [
+  | None ↦ record { printed = []; stand = Stuck }
+  | Some f ↦ seen_after m n (enter called f [] [] bottom (first_store m))
+]
+
+-- what is seen of a module after so many steps: of its start function, where it has one, and then of its exported `main`, which
+-- takes nothing
 abbrev pub wasm : WModule → ℕ → Seen
 wasm m n = elim (exported is_func (codes "main") m.exports) [
   | None ↦ record { printed = []; stand = Stuck }
-  | Some main ↦ elim (slice_get (environment_of m).functions main) [
-    | None ↦ record { printed = []; stand = Stuck }
-    | Some f ↦ seen_after m n (enter main f [] [] TheEnd (first_store m))
+  | Some main ↦ elim m.start [
+    | None ↦ seen_of m n main TheEnd
+    | Some start ↦ seen_of m n start (ThenCall main)
   ]
 ]

@@ -9,15 +9,9 @@ use Rattle.wasm_ast.specs.declared.modules.LocalRun.{LocalRun}
 use Rattle.machine_steps.specs.declared.End.TheVariants.{Value, Trap}
 use Rattle.machine_steps.specs.declared.Trap as machine
 use Rattle.machine_steps.specs.declared.Trap.TheVariants.{Exhausted, Index, Unreachable}
-use Rattle.machine_steps.specs.Steps.{Turn, Went, Ended, NoStep}
+use Rattle.machine_steps.specs.Steps.{Turn, Went, Ended, NoStep, with_top}
 use Rattle.wasm_meaning.specs.Configurations.{Level, Here, Bottom, TheEnd, ThenCall, Store, Config, Event, Print}
 use Rattle.wasm_meaning.specs.Environments.{Environment, Function}
-
--- so many operands from the top, and what follows where they are there
-abbrev pub with_top : {X : Type 0} → ℕ → List ℕ → (List ℕ → List ℕ → Turn Event X) → Turn Event X
-with_top zero operands then = then [] operands
-with_top (suc n) [] then = NoStep
-with_top (suc n) (v ∷ operands) then = with_top n operands (λ vs beneath. then (v ∷ vs) beneath)
 
 -- what follows a look-up that found something
 abbrev pub with_found : {X Y : Type 0} → Option X → (X → Turn Event Y) → Turn Event Y
@@ -38,7 +32,7 @@ abbrev pub first_or_zero : List ℕ → ℕ
 first_or_zero [] = 0
 first_or_zero (v ∷ vs) = v
 
--- why `unreachable` was reached, by the number in the global that tells it
+-- why `unreachable` was reached, by the number in the global that tells it; this project's own
 abbrev pub reason : ℕ → machine.Trap
 reason (suc zero) = Exhausted
 reason (suc (suc zero)) = Index
@@ -51,12 +45,11 @@ told_reason (Some n) = reason n
 abbrev pub reason_in : Environment → Store → machine.Trap
 reason_in e store = elim e.trap_code [ None ↦ Unreachable | Some n ↦ told_reason (slice_get store.globals n) ]
 
--- the call of a function with these operands, the last argument first (4.4.7)
+-- the call of a function with these operands, the last argument first (4.4.7.1)
 abbrev pub enter : ℕ → Function → List ℕ → List Here → Bottom → Store → Turn Event Config
 enter n f arguments callers bottom store = with_found f.code (λ code. Went [] (record {
   here = record {
     function = n;
-    argument = first_or_zero (reverse arguments);
     locals = reverse arguments ++ replicate (declared code.locals) 0;
     operands = [];
     rest = code.body;
@@ -72,7 +65,7 @@ module _ (e : Environment) where
   abbrev pub goes_on : Here → Config → Turn Event Config
   goes_on here c = Went [] (record { here = here; callers = c.callers; bottom = c.bottom; store = c.store })
 
-  -- a call: of the host's function, which prints its argument, or of one of the module's (4.4.5.8)
+  -- a call: of the host's function, which prints its argument, or of one of the module's (4.4.5.10, 4.4.7.3)
   abbrev pub call : ℕ → Function → Here → Config → Turn Event Config
   call n f here c = with_top (length f.ty.params) here.operands (λ arguments beneath.
       let waiting : Here = record here { operands = beneath } in
@@ -92,7 +85,7 @@ module _ (e : Environment) where
   give vs [] TheEnd c = ends_with vs c
   give vs [] (ThenCall n) c = with_found (slice_get e.functions n) (λ f. enter n f [] [] TheEnd c.store)
 
-  -- the end of a list (4.4.6)
+  -- the end of a list: of a block, or of a function's body (4.4.6, 4.4.7.2)
   abbrev pub leave : List Level → Here → Config → Turn Event Config
   leave [] here c = with_found (slice_get e.functions here.function) (λ f. with_top (results_of f.ty.result) here.operands (λ vs beneath. give vs c.callers c.bottom c))
   leave (l ∷ levels) here c = with_top l.gives here.operands (λ vs beneath. goes_on (record here { operands = vs ++ l.beneath; rest = l.rest; levels = levels }) c)

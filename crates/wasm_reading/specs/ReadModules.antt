@@ -14,6 +14,7 @@ use Rattle.wasm_ast.specs.declared.modules.LocalRun.{LocalRun}
 use Rattle.wasm_ast.specs.declared.modules.WModule.{WModule}
 use Rattle.wasm_grammar.specs.CanonicalModules.{preamble}
 use Rattle.wasm_grammar.specs.Profile.{local_limit}
+use Rattle.wasm_grammar.specs.WorkedModules.{empty_module}
 use Rattle.wasm_reading.specs.declared.fault.DecodeError.{DecodeError}
 use Rattle.wasm_reading.specs.declared.fault.DecodeFault.{DecodeFault}
 use Rattle.wasm_reading.specs.declared.fault.DecodeFault.TheVariants.{BadMagic, BadVersion, BadTag, BadOrder, CountMismatch, LimitOutside}
@@ -122,22 +123,6 @@ content_at id m =
     else (if id == 9 then (do xs ← vector_at element_at; give (record m { elements = xs }))
     else (if id == 10 then (do xs ← codes_at (length m.funcs); give (record m { codes = xs }))
     else (do xs ← vector_at segment_at; give (record m { segments = xs })))))))))))
-
--- a module without sections
-abbrev pub empty_module : WModule
-empty_module = record {
-  types = [];
-  imports = [];
-  funcs = [];
-  tables = [];
-  memories = [];
-  globals = [];
-  exports = [];
-  start = None;
-  elements = [];
-  codes = [];
-  segments = [];
-}
 
 -- what stands where the input ends behind a section: there are as many codes as functions
 abbrev pub module_at_end : WModule → Reader WModule

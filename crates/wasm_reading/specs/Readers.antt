@@ -1,6 +1,6 @@
 -- Reading from the left: items one after another, up to the first that breaks its rule; this project's own.
 -- A reader takes what it reads from an input and gives a value and the input behind it, or the first fault.
-use Rattle.std.specs.Prelude.{ℕ, zero, suc, ◌+◌, ◌==◌, min, Bool, false, if◌then◌else◌, List, [], ◌∷◌, Option, None, Some, Result, Ok, Err}
+use Rattle.std.specs.Prelude.{ℕ, zero, suc, ◌+◌, ◌==◌, ◌≤◌, min, Bool, false, if◌then◌else◌, List, [], ◌∷◌, Option, None, Some, Result, Ok, Err}
 use Rattle.std.specs.Option.{option_map_or}
 use Rattle.wasm_reading.specs.declared.fault.DecodeError.{DecodeError}
 use Rattle.wasm_reading.specs.declared.fault.DecodeFault.{DecodeFault}
@@ -45,6 +45,11 @@ here = λ input. Ok (input.at, input)
 -- reading stands at a declared end
 abbrev pub is_at_end : Input → Bool
 is_at_end input = option_map_or (λ end. input.at == end) input.end false
+
+-- the place stands at the declared end or before it
+abbrev pub IsWithin : ℕ → Option ℕ → Type 0
+IsWithin at None = Unit {0}
+IsWithin at (Some end) = at ≤ end
 
 -- the first byte of what follows, which the input may lack
 abbrev pub first_byte : ℕ → Option ℕ → List ℕ → Result (ℕ × Input) DecodeError

@@ -3,7 +3,8 @@ use Rattle.std.specs.Prelude.{◌≡◌, ℕ, List, [], ◌∷◌, ◌++◌, Ok,
 use Rattle.wasm_grammar.specs.CanonicalModules.{preamble}
 use Rattle.wasm_reading.specs.declared.fault.DecodeFault.{DecodeFault}
 use Rattle.wasm_reading.specs.declared.fault.DecodeFault.TheVariants.{Truncated, BadLeb, BadOrder, BadLength, FloatOutside, LimitOutside}
-use Rattle.wasm_reading.specs.ReadModules.{reading_of, empty_module}
+use Rattle.wasm_grammar.specs.WorkedModules.{empty_module}
+use Rattle.wasm_reading.specs.ReadModules.{reading_of}
 
 -- the magic number and the version, and bytes behind them
 abbrev pub behind_preamble : List ℕ → List ℕ

@@ -6,7 +6,8 @@ use Rattle.wasm_grammar.specs.CanonicalModules.{preamble}
 use Rattle.wasm_grammar.specs.GrammarModules.{SpellsModule}
 use Rattle.wasm_reading.specs.declared.fault.DecodeError.{DecodeError}
 use Rattle.wasm_reading.specs.Readers.{Input}
-use Rattle.wasm_reading.specs.ReadModules.{module_at, empty_module, reading_of, without_rest}
+use Rattle.wasm_grammar.specs.WorkedModules.{empty_module}
+use Rattle.wasm_reading.specs.ReadModules.{module_at, reading_of, without_rest}
 use Rattle.wasm_reading_laws.specs.ModulesRead.{HasFirstFault, ModuleOrFault, NeverBoth, OneFirstFault, NeverOfMemory, FaultIsInBytes, TruncatedAtTheEnd, TruncatedIsUndecided}
 use Rattle.wasm_reading_laws.proofs.Modules.{read_is_spelled, spelled_is_read}
 use Rattle.wasm_reading_laws.proofs.FaultBounds.{IsPlaced, IsInBounds, InBounds, bounds_then}

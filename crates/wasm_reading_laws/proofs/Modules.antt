@@ -19,7 +19,8 @@ use Rattle.wasm_grammar.specs.GrammarModules.{AreCustomSections, AreSections}
 use Rattle.wasm_reading.specs.declared.fault.DecodeError.{DecodeError}
 use Rattle.wasm_reading.specs.declared.fault.DecodeFault.TheVariants.{BadMagic, BadVersion}
 use Rattle.wasm_reading.specs.Readers.{Input}
-use Rattle.wasm_reading.specs.ReadModules.{preamble_at, sections_at, empty_module, module_at, without_rest}
+use Rattle.wasm_grammar.specs.WorkedModules.{empty_module}
+use Rattle.wasm_reading.specs.ReadModules.{preamble_at, sections_at, module_at, without_rest}
 use Rattle.wasm_reading_values.specs.Exactness.{Exact}
 use Rattle.wasm_reading_values.proofs.Compose.{alike, giving, failing, branch, placed, followed}
 use Rattle.wasm_reading_values.proofs.ExactNumbers.{one_byte}

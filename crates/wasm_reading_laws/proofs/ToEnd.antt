@@ -4,15 +4,15 @@ use Rattle.std.proofs.Common.{◌≡◌, ◌∙◌, ℕ, ◌+◌, ◌≤◌, Boo
 use Rattle.std.specs.Prelude.{if◌then◌else◌}
 use Rattle.wasm_grammar.specs.GrammarValues.{Joined}
 use Rattle.wasm_reading.specs.declared.fault.DecodeFault.{DecodeFault}
-use Rattle.wasm_reading.specs.Readers.{Input, Reader, and_then, ◌>>=◌, fail, here}
-use Rattle.wasm_reading_values.specs.Exactness.{AreBytes, IsBy, Took, Exact}
+use Rattle.wasm_reading.specs.Readers.{IsWithin, Input, Reader, and_then, ◌>>=◌, fail, here}
+use Rattle.wasm_reading_values.specs.Exactness.{AreBytes, Took, Exact}
 use Rattle.wasm_reading_values.proofs.Compose.{behind_took, from_and_then}
 
 pub record ToEnd (most : ℕ) {A : Type 0} (read : Reader A) (Spells : A → List ℕ → Type 0) : Type 0 where
   pub sound : (input behind : Input) (a : A) → AreBytes input.rest → length input.rest ≤ most → read input ≡ Ok (a, behind) → Spells a input.rest
   pub complete : (input : Input) (a : A) → input.end ≡ None → length input.rest ≤ most → Spells a input.rest → (behind : Input) × (read input ≡ Ok (a, behind))
 
--- the same bytes, told otherwise
+-- the same bytes by another relation that holds of them alike
 pub alike_to_end : {most : ℕ} {A : Type 0} {read : Reader A} {P Q : A → List ℕ → Type 0} → ToEnd most read P → ((a : A) (bytes : List ℕ) → P a bytes → Q a bytes) → ((a : A) (bytes : List ℕ) → Q a bytes → P a bytes) → ToEnd most read Q
 alike_to_end k f g = record {
   sound = λ input behind a h small e. f a input.rest (k.sound input behind a h small e);
@@ -53,5 +53,5 @@ followed_to_end {most} less {first = first} {First = First} next Next smaller k 
       let t : Took (First a) input middle = record { front = q.front; holds = q.first; whole = q.whole; place = refl; same_end = refl } in
       let left = smaller a q.front q.back q.first (subst (λ (bytes : List ℕ). length bytes ≤ most) q.whole small) in
       let done = (l a).complete middle b unbounded left q.second in
-      (done.0, ap (λ r. and_then r next) (k.complete input middle a t (subst (λ (end : Option ℕ). IsBy end middle.at) (sym unbounded) tt) tt) ∙ done.1);
+      (done.0, ap (λ r. and_then r next) (k.complete input middle a t (subst (λ (end : Option ℕ). IsWithin middle.at end) (sym unbounded) tt) tt) ∙ done.1);
 }

@@ -6,8 +6,8 @@ use Rattle.std.proofs.lemmas.List.Elements.{All-tail}
 use Rattle.wasm_grammar.specs.GrammarValues.{Joined}
 use Rattle.wasm_reading.specs.declared.fault.DecodeError.{DecodeError}
 use Rattle.wasm_reading.specs.declared.fault.DecodeFault.{DecodeFault}
-use Rattle.wasm_reading.specs.Readers.{Input, Reader, and_then, ◌>>=◌, give, fail, here}
-use Rattle.wasm_reading_values.specs.Exactness.{AreBytes, IsBy, Took, HasRoom, ExactIn, Exact}
+use Rattle.wasm_reading.specs.Readers.{IsWithin, Input, Reader, and_then, ◌>>=◌, give, fail, here}
+use Rattle.wasm_reading_values.specs.Exactness.{AreBytes, Took, HasRoom, ExactIn, Exact}
 
 -- the bytes behind others
 pub bytes_behind : (front back : List ℕ) → AreBytes (front ++ back) → AreBytes back
@@ -64,11 +64,11 @@ second_took {input = input} {behind = behind} t =
     let sum : length t.front ≡ length t.holds.front + length t.holds.back = ap length t.holds.whole ∙ length-append t.holds.front t.holds.back in
     record { front = t.holds.back; holds = t.holds.second; whole = refl; place = omega (arith, t.place, sum); same_end = t.same_end }
 
-pub by_earlier : (end : Option ℕ) (at later : ℕ) → at ≤ later → IsBy end later → IsBy end at
+pub by_earlier : (end : Option ℕ) (at later : ℕ) → at ≤ later → IsWithin later end → IsWithin at end
 by_earlier None at later l h = tt
 by_earlier (Some end) at later l h = omega arith
 
--- the same bytes, told otherwise
+-- the same bytes by another relation that holds of them alike
 pub alike : {room : Option ℕ} {A : Type 0} {read : Reader A} {P Q : A → List ℕ → Type 0} → ExactIn room read P → ((a : A) (bytes : List ℕ) → P a bytes → Q a bytes) → ((a : A) (bytes : List ℕ) → Q a bytes → P a bytes) → ExactIn room read Q
 alike k f g = record {
   sound = λ input behind a h e. took_so (k.sound input behind a h e) (f a);
@@ -124,7 +124,7 @@ room_behind : (room : Option ℕ) (front back : List ℕ) → HasRoom room (fron
 room_behind None front back h = tt
 room_behind (Some most) front back h = omega (arith, length-append front back)
 
--- one reader behind another, which may have another room, and of which exactness is owed where the first value is spelled
+-- one reader behind another, which may have another room, and which has to be exact where the first value is spelled
 pub followed_where : {room : Option ℕ} (less : Option ℕ) {A B : Type 0} {first : Reader A} {First : A → List ℕ → Type 0} (next : A → Reader B) (Next : A → B → List ℕ → Type 0) → ((a : A) (front back : List ℕ) → First a front → HasRoom room (front ++ back) → HasRoom less back) → ExactIn room first First → ((a : A) (front : List ℕ) → First a front → ExactIn less (next a) (Next a)) → ExactIn room (first >>= next) (λ b bytes. (a : A) × Joined (First a) (Next a b) bytes)
 followed_where {room} less {first = first} {First = First} next Next smaller k l = record {
   sound = λ input behind b h e.
@@ -138,12 +138,12 @@ followed_where {room} less {first = first} {First = First} next Next smaller k l
       let middle : Input = record { at = input.at + length u.holds.front; end = input.end; rest = u.holds.back ++ behind.rest } in
       let s = first_took u in
       let v = second_took u in
-      let early : IsBy input.end middle.at = by_earlier input.end middle.at behind.at (omega (arith, v.place)) (subst (λ (end : Option ℕ). IsBy end behind.at) t.same_end h) in
+      let early : IsWithin middle.at input.end = by_earlier input.end middle.at behind.at (omega (arith, v.place)) (subst (λ (end : Option ℕ). IsWithin behind.at end) t.same_end h) in
       let left = smaller a s.front middle.rest s.holds (subst (λ (bytes : List ℕ). HasRoom room bytes) s.whole space) in
       ap (λ r. and_then r next) (k.complete input middle a s early space) ∙ (l a s.front s.holds).complete middle behind b v h left;
 }
 
--- the same, owed of each first value
+-- the same, exact for each first value
 pub followed_in : {room : Option ℕ} (less : Option ℕ) {A B : Type 0} {first : Reader A} {First : A → List ℕ → Type 0} (next : A → Reader B) (Next : A → B → List ℕ → Type 0) → ((a : A) (front back : List ℕ) → First a front → HasRoom room (front ++ back) → HasRoom less back) → ExactIn room first First → ((a : A) → ExactIn less (next a) (Next a)) → ExactIn room (first >>= next) (λ b bytes. (a : A) × Joined (First a) (Next a b) bytes)
 followed_in less next Next smaller k l = followed_where less next Next smaller k (λ a front p. l a)
 
@@ -176,7 +176,7 @@ made {P = P} make k =
     (p.0, p.1.second.0, subst (λ (xs : List ℕ). P p.0 xs) (sym all) p.1.first))
     (λ b bytes p. (p.0, record { front = bytes; back = []; first = p.2; second = (p.1, refl); whole = sym (append-nil bytes) }))
 
--- a field of a value, and what is read of it behind, which is owed where the field is spelled; of the fields before it
+-- a field of a value, and what is read of it behind, which has to be exact where the field is spelled; of the fields before it
 -- is known what was read
 pub field_where : {room : Option ℕ} {A B : Type 0} {first : Reader A} {First : A → List ℕ → Type 0} (of : B → A) (next : A → Reader B) (Known : B → Type 0) (Next : B → List ℕ → Type 0) → ExactIn room first First → ((a : A) (front : List ℕ) → First a front → ExactIn room (next a) (λ b bytes. (Known b × (of b ≡ a)) × Next b bytes)) → ExactIn room (first >>= next) (λ b bytes. Known b × Joined (First (of b)) (Next b) bytes)
 field_where {room} {First = First} of next Known Next k l =
@@ -189,7 +189,7 @@ field_where {room} {First = First} of next Known Next k l =
     let q = p.1 in
     (of b, record { front = q.front; back = q.back; first = q.first; second = ((p.0, refl), q.second); whole = q.whole }))
 
--- the same, owed of each value of the field
+-- the same, exact for each value of the field
 pub field : {room : Option ℕ} {A B : Type 0} {first : Reader A} {First : A → List ℕ → Type 0} (of : B → A) (next : A → Reader B) (Known : B → Type 0) (Next : B → List ℕ → Type 0) → ExactIn room first First → ((a : A) → ExactIn room (next a) (λ b bytes. (Known b × (of b ≡ a)) × Next b bytes)) → ExactIn room (first >>= next) (λ b bytes. Known b × Joined (First (of b)) (Next b) bytes)
 field of next Known Next k l = field_where of next Known Next k (λ a front p. l a)
 

@@ -10,7 +10,7 @@ use Rattle.wasm_ast.specs.declared.modules.Code.{Code}
 use Rattle.wasm_ast.specs.declared.modules.LocalRun.{LocalRun}
 use Rattle.wasm_grammar.specs.Nesting.{nesting_limit, NestsAtMost}
 use Rattle.wasm_grammar.specs.ProfileInstructions.{FitsU32, IsShortListOf}
-use Rattle.wasm_grammar.specs.Profile.{local_limit, CodeFits}
+use Rattle.wasm_grammar.specs.Profile.{local_total, local_limit, CodeFits}
 use Rattle.wasm_grammar.specs.GrammarValues.{Joined, IsUnsigned, IsEach, IsVector}
 use Rattle.wasm_grammar.specs.GrammarTypes.{IsValueType}
 use Rattle.wasm_grammar.specs.GrammarInstructions.{IsExpression}
@@ -22,7 +22,7 @@ use Rattle.wasm_reading.specs.ReadTypes.{value_type_of}
 use Rattle.wasm_reading.specs.ReadInstructions.{expression_at}
 use Rattle.wasm_reading.specs.ReadModules.{local_runs_at, function_at, code_at, codes_at}
 use Rattle.wasm_reading_values.specs.Exactness.{Exact}
-use Rattle.wasm_reading_values.specs.EntriesRead.{local_total, AreRuns, LocalsReadExactly, ExpressionsReadExactly, ShortExpressionsFit, CodesReadExactly}
+use Rattle.wasm_reading_values.specs.EntriesRead.{AreRuns, LocalsReadExactly, ExpressionsReadExactly, ShortExpressionsFit, CodesReadExactly}
 use Rattle.wasm_reading_values.proofs.Compose.{from_left, from_right, alike, giving, failing, branch, placed, followed, followed_where, made, field, last_field, fields}
 use Rattle.wasm_reading_values.proofs.ExactNumbers.{u32}
 use Rattle.wasm_reading_values.proofs.ExactLists.{unsigned_fits, each, each_fits, each_apart, each_together, sized}

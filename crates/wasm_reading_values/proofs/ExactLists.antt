@@ -12,9 +12,9 @@ use Rattle.wasm_grammar.specs.Profile.{NameFits}
 use Rattle.wasm_grammar.specs.GrammarValues.{Joined, ◌followed_by◌, IsExactly, IsByte, IsRaw, IsUnsigned, IsEach, IsVector, IsByteVector, IsName, IsSized}
 use Rattle.wasm_reading.specs.declared.fault.DecodeError.{DecodeError}
 use Rattle.wasm_reading.specs.declared.fault.DecodeFault.TheVariants.{BadUtf8}
-use Rattle.wasm_reading.specs.Readers.{Input, Reader, ◌>>=◌, give, here, byte_at, each_at, lesser_end, and_then, ended, within}
+use Rattle.wasm_reading.specs.Readers.{IsWithin, Input, Reader, ◌>>=◌, give, here, byte_at, each_at, lesser_end, and_then, ended, within}
 use Rattle.wasm_reading.specs.ReadValues.{u32_at, vector_at, name_at, sized_at}
-use Rattle.wasm_reading_values.specs.Exactness.{AreBytes, IsBy, Took, Exact}
+use Rattle.wasm_reading_values.specs.Exactness.{AreBytes, Took, Exact}
 use Rattle.wasm_reading_values.proofs.Compose.{from_and_then, read_one, read_same, same_input, alike, giving, placed, followed, made, field, fields, checked, give_if}
 use Rattle.wasm_reading_values.proofs.ExactNumbers.{one_byte, raw_byte, u32}
 
@@ -153,7 +153,7 @@ from_ended true fault end a b middle behind e =
     (refl, same.0, same.1)
 from_ended false fault end a b middle behind e = absurd (cc)
 
-by_lesser : (end : Option ℕ) (stop at : ℕ) → at ≡ stop → IsBy end at → at ≤ lesser_end end stop
+by_lesser : (end : Option ℕ) (stop at : ℕ) → at ≡ stop → IsWithin at end → at ≤ lesser_end end stop
 by_lesser None stop at e h = omega arith
 by_lesser (Some end) stop at e h = omega arith
 
@@ -174,7 +174,7 @@ within_sound {content = content} {Content = Content} k size input behind a h e =
       same_end = ap (λ (i : Input). i.end) (sym s.2);
     }
 
-within_complete : {A : Type 0} {content : Reader A} {Content : A → List ℕ → Type 0} → Exact content Content → (size : ℕ) (input behind : Input) (a : A) → Took (λ bytes. (length bytes ≡ size) × Content a bytes) input behind → IsBy behind.end behind.at → within (input.at + size) content input ≡ Ok (a, behind)
+within_complete : {A : Type 0} {content : Reader A} {Content : A → List ℕ → Type 0} → Exact content Content → (size : ℕ) (input behind : Input) (a : A) → Took (λ bytes. (length bytes ≡ size) × Content a bytes) input behind → IsWithin behind.at behind.end → within (input.at + size) content input ≡ Ok (a, behind)
 within_complete {content = content} {Content = Content} k size input behind a t h =
     let stop = input.at + size in
     let end : Option ℕ = Some (lesser_end input.end stop) in
@@ -182,7 +182,7 @@ within_complete {content = content} {Content = Content} k size input behind a t 
     let left : Input = record { at = behind.at; end = end; rest = behind.rest } in
     let stops : behind.at ≡ stop = omega (arith, t.place, t.holds.0) in
     let u : Took (Content a) inner left = record { front = t.front; holds = t.holds.1; whole = t.whole; place = t.place; same_end = refl } in
-    let fits : IsBy left.end left.at = by_lesser input.end stop behind.at stops (subst (λ (e : Option ℕ). IsBy e behind.at) t.same_end h) in
+    let fits : IsWithin left.at left.end = by_lesser input.end stop behind.at stops (subst (λ (e : Option ℕ). IsWithin behind.at e) t.same_end h) in
     let done : Input = record { at = behind.at; end = input.end; rest = behind.rest } in
     ap (λ r. and_then r (ended input.end stop)) (k.complete inner left a u fits tt)
     ∙ cond-true (eqb behind.at stop) _ _ (eq-eqb behind.at stop stops)

@@ -10,9 +10,9 @@ use Rattle.wasm_grammar.specs.GrammarValues.{Joined, ◌followed_by◌, IsByte, 
 use Rattle.wasm_reading.specs.declared.fault.DecodeError.{DecodeError}
 use Rattle.wasm_reading.specs.declared.fault.DecodeFault.{DecodeFault}
 use Rattle.wasm_reading.specs.declared.fault.DecodeFault.TheVariants.{BadLeb, BadTag}
-use Rattle.wasm_reading.specs.Readers.{Input, Reader, ◌>>=◌, give, fail, is_at_end, first_byte, byte_at}
+use Rattle.wasm_reading.specs.Readers.{IsWithin, Input, Reader, ◌>>=◌, give, fail, is_at_end, first_byte, byte_at}
 use Rattle.wasm_reading.specs.ReadValues.{unsigned_end, signed_end, number_or, number_at, u32_at, s32_at, s64_at, tagged, tag_at, only}
-use Rattle.wasm_reading_values.specs.Exactness.{AreBytes, IsBy, Took, ExactIn, Exact}
+use Rattle.wasm_reading_values.specs.Exactness.{AreBytes, Took, ExactIn, Exact}
 use Rattle.wasm_reading_values.proofs.Compose.{read_one, read_same, same_input, took_so, alike, giving, failing, branch, placed, followed, in_room, made}
 
 -- the first byte, by the parts of an input
@@ -29,7 +29,7 @@ first_of at end (c ∷ rest) behind b e =
     }
 
 -- reading does not stand at an end that is further on
-not_at_end : (at : ℕ) (end : Option ℕ) (rest : List ℕ) → IsBy end (at + 1) → is_at_end (record { at = at; end = end; rest = rest }) ≡ false
+not_at_end : (at : ℕ) (end : Option ℕ) (rest : List ℕ) → IsWithin (at + 1) end → is_at_end (record { at = at; end = end; rest = rest }) ≡ false
 not_at_end at None rest h = refl
 not_at_end at (Some end) rest h = ne_eqb at end (λ e. omega arith)
 
@@ -46,7 +46,7 @@ one_byte = record {
       let whole : input.rest ≡ b ∷ behind.rest = t.whole ∙ ap (λ (front : List ℕ). front ++ behind.rest) bytes in
       let size : length t.front ≡ 1 = ap length bytes in
       let place : behind.at ≡ input.at + 1 = omega (arith, t.place, size) in
-      let later : IsBy input.end (input.at + 1) = subst (λ (end : Option ℕ). IsBy end (input.at + 1)) t.same_end (subst (λ (at : ℕ). IsBy behind.end at) place h) in
+      let later : IsWithin (input.at + 1) input.end = subst (λ (end : Option ℕ). IsWithin (input.at + 1) end) t.same_end (subst (λ (at : ℕ). IsWithin at behind.end) place h) in
       cond-false (is_at_end input) _ (first_byte input.at input.end input.rest) (not_at_end input.at input.end input.rest later)
       ∙ ap (λ (rest : List ℕ). first_byte input.at input.end rest) whole
       ∙ read_same b b (record { at = input.at + 1; end = input.end; rest = behind.rest }) behind refl (same_input _ behind (sym place) (sym t.same_end) refl);

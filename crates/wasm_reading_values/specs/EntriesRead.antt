@@ -1,11 +1,12 @@
 -- The readers of the entries of sections read exactly what the grammar spells, within the profile (WebAssembly Core
--- Specification 1.0, section 5.5). What nests instructions is owed where expressions are read exactly.
-use Rattle.std.specs.Prelude.{◌≡◌, ℕ, ◌+◌, ◌^◌, ◌<◌, ◌≤◌, List, length, sum_by}
+-- Specification 1.0, section 5.5). Readers of entries with instructions are exact where the
+-- reader of expressions is.
+use Rattle.std.specs.Prelude.{◌≡◌, ℕ, ◌+◌, ◌^◌, ◌<◌, ◌≤◌, List, length}
 use Rattle.wasm_ast.specs.declared.instructions.WInstr.{WInstr}
 use Rattle.wasm_ast.specs.declared.modules.LocalRun.{LocalRun}
 use Rattle.wasm_grammar.specs.Nesting.{nesting_limit, NestsAtMost}
 use Rattle.wasm_grammar.specs.ProfileInstructions.{IsShortListOf, InstructionsFit, ConstantFits}
-use Rattle.wasm_grammar.specs.Profile.{local_limit, ImportFits, GlobalFits, ExportFits, ElementFits, CodeFits, SegmentFits}
+use Rattle.wasm_grammar.specs.Profile.{local_limit, local_total, ImportFits, GlobalFits, ExportFits, ElementFits, CodeFits, SegmentFits}
 use Rattle.wasm_grammar.specs.GrammarValues.{IsEach, IsVector}
 use Rattle.wasm_grammar.specs.GrammarInstructions.{IsExpression, IsConstantExpression}
 use Rattle.wasm_grammar.specs.GrammarModules.{IsImport, IsGlobal, IsExport, IsElement, IsLocalRun, IsCode, IsSegment}
@@ -36,10 +37,6 @@ ElementsReadExactly = Exact element_at (λ s bytes. ElementFits s × IsElement s
 -- data segments
 abbrev pub SegmentsReadExactly : Type 0
 SegmentsReadExactly = Exact segment_at (λ s bytes. SegmentFits s × IsSegment s bytes)
-
--- how many locals some runs declare
-abbrev pub local_total : List LocalRun → ℕ
-local_total runs = sum_by (λ (r : LocalRun). r.count) runs
 
 -- so many runs, for which the limit has room behind the locals that are declared before
 abbrev pub AreRuns : ℕ → ℕ → List LocalRun → List ℕ → Type 0

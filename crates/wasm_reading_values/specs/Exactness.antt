@@ -1,15 +1,10 @@
 -- When a reader reads exactly what a production spells; this project's own words.
 use Rattle.std.specs.Prelude.{◌≡◌, ℕ, ◌+◌, ◌<◌, ◌≤◌, List, ◌++◌, length, All, Option, Some, None, Ok}
-use Rattle.wasm_reading.specs.Readers.{Input, Reader}
+use Rattle.wasm_reading.specs.Readers.{Input, IsWithin, Reader}
 
 -- numbers that are bytes
 abbrev pub AreBytes : List ℕ → Type 0
 AreBytes = All (λ b. b < 256)
-
--- a place is not past a declared end
-abbrev pub IsBy : Option ℕ → ℕ → Type 0
-IsBy None at = Unit {0}
-IsBy (Some end) at = at ≤ end
 
 -- `behind` is what is left of `input` once the bytes at its front are taken, and `P` holds of those
 pub record Took (P : List ℕ → Type 0) (input behind : Input) : Type 0 where
@@ -29,7 +24,7 @@ HasRoom (Some most) bytes = length bytes ≤ most
 -- room for.
 pub record ExactIn (room : Option ℕ) {A : Type 0} (read : Reader A) (Spells : A → List ℕ → Type 0) : Type 0 where
   pub sound : (input behind : Input) (a : A) → AreBytes input.rest → read input ≡ Ok (a, behind) → Took (Spells a) input behind
-  pub complete : (input behind : Input) (a : A) → Took (Spells a) input behind → IsBy behind.end behind.at → HasRoom room input.rest → read input ≡ Ok (a, behind)
+  pub complete : (input behind : Input) (a : A) → Took (Spells a) input behind → IsWithin behind.at behind.end → HasRoom room input.rest → read input ≡ Ok (a, behind)
 
 -- a reader reads exactly what is spelled, however many bytes follow
 abbrev pub Exact : {A : Type 0} → Reader A → (A → List ℕ → Type 0) → Type 0

@@ -1,5 +1,5 @@
 -- The readers of types read exactly what the grammar spells, within the profile (WebAssembly Core Specification 1.0,
--- sections 5.3, 5.4.1, 5.5.5 and 5.5.10).
+-- sections 5.3, 5.5.5 and 5.5.10).
 use Rattle.std.specs.Prelude.{ℕ}
 use Rattle.wasm_grammar.specs.Tags.{block_type, mutability, export_kind}
 use Rattle.wasm_grammar.specs.Profile.{page_limit, entry_limit, FuncTypeFits, LimitsFit}

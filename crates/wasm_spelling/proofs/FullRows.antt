@@ -8,12 +8,11 @@ use Rattle.wasm_ast.specs.declared.instructions.WInstr.{WInstr, If, IfElse, Loca
 use Rattle.wasm_ast.specs.declared.instructions.WInstr.TheOpen.{WInstr-F}
 use Rattle.wasm_ast.specs.declared.instructions.WInstr.TheVariants.{rolls-If, rolls-IfElse, rolls-LocalGet, rolls-I32Const, rolls-I64Const, rolls-GlobalGet}
 use Rattle.wasm_grammar.specs.CanonicalInstructions.{instruction_bytes}
-use Rattle.wasm_grammar.specs.CanonicalModules.{section_bytes, section_of, start_section, preamble, type_content, import_content, function_content, table_content, memory_content, global_content, export_content, element_content, code_content, data_content, module_bytes}
+use Rattle.wasm_grammar.specs.CanonicalModules.{HasShortContents, section_bytes, section_of, start_section, preamble, type_content, import_content, function_content, table_content, memory_content, global_content, export_content, element_content, code_content, data_content, module_bytes}
 use Rattle.wasm_grammar.specs.Nesting.{nesting, nesting_limit, NestsAtMost, ModuleNestsAtMost}
 use Rattle.wasm_grammar.specs.ProfileInstructions.{ConstantFits, InstructionsFit, nested_fits, two_arms_fit, none_fit, more_fit}
 use Rattle.wasm_grammar.specs.Profile.{CodeFits, IsInProfile}
 use Rattle.wasm_grammar.specs.GrammarModules.{SpellsModule}
-use Rattle.wasm_spelling.specs.SpellingLaws.{HasShortContents}
 use Rattle.wasm_spelling.specs.FullModule.{no_values, imported_global, small_table, small_memory, counter, memory_export, function_element, two_ifs, two_bytes, full_module, full_types, full_imports, full_functions, full_tables, full_memories, full_globals, full_exports, full_start, full_elements, full_codes, full_segments, full_module_bytes}
 use Rattle.wasm_spelling.proofs.KnownInstructions.{known_immediate, known_bytes, known_nesting, known_fits, known_constant, one, one_byte, no_byte, chosen}
 use Rattle.wasm_spelling.proofs.SpelledModules.{canonical_bytes_spell}

@@ -10,7 +10,7 @@ use Rattle.wasm_ast.specs.Opcodes.{opcode_of}
 use Rattle.wasm_ast.specs.Immediates.{Immediate, Const64, immediate_of}
 use Rattle.wasm_grammar.specs.Nesting.{nesting, nesting_limit, NestsAtMost, ModuleNestsAtMost}
 use Rattle.wasm_grammar.specs.CanonicalInstructions.{instruction_bytes}
-use Rattle.wasm_grammar.specs.CanonicalModules.{code_content, preamble}
+use Rattle.wasm_grammar.specs.CanonicalModules.{HasShortContents, code_content, preamble}
 use Rattle.wasm_grammar.specs.WorkedModules.{six, six_module, six_module_bytes, main_export, gives_i64}
 use Rattle.wasm_grammar.specs.ProfileInstructions.{none_fit, more_fit}
 use Rattle.wasm_grammar.specs.Profile.{CodeFits, IsInProfile}
@@ -19,7 +19,6 @@ use Rattle.wasm_grammar.specs.GrammarTypes.{IsFuncType}
 use Rattle.wasm_grammar.specs.GrammarInstructions.{IsImmediate, IsInstruction, plain, none, more}
 use Rattle.wasm_grammar.specs.GrammarModules.{IsSection, IsOptionalSection, AreCustomSections, IsExport, IsFunction, IsCode, IsModule, SpellsModule}
 use Rattle.wasm_grammar.proofs.WorkedRows.{six_module-bytes}
-use Rattle.wasm_spelling.specs.SpellingLaws.{HasShortContents}
 use Rattle.wasm_spelling.specs.PaddedModule.{custom_x, padded_types, padded_functions, custom_abc, padded_exports, padded_codes, padded_module_bytes}
 use Rattle.wasm_spelling.proofs.KnownInstructions.{known_opcode, known_immediate, known_bytes, known_nesting, known_fits, one, empty, one_byte, no_byte, chosen}
 use Rattle.wasm_spelling.proofs.SpelledValues.{joined}

@@ -18,13 +18,13 @@ use Rattle.wasm_ast.specs.declared.modules.WModule.{WModule}
 use Rattle.wasm_grammar.specs.Tags.{value_type, mutability, export_kind}
 use Rattle.wasm_grammar.specs.CanonicalTypes.{vector_bytes, byte_vector_bytes, func_type_bytes, limits_bytes, table_type_bytes}
 use Rattle.wasm_grammar.specs.CanonicalInstructions.{expression_bytes, constant_bytes}
-use Rattle.wasm_grammar.specs.CanonicalModules.{import_kind_bytes, import_bytes, global_bytes, export_bytes, element_bytes, local_run_bytes, function_bytes, code_bytes, segment_bytes, type_content, import_content, function_content, table_content, memory_content, global_content, export_content, element_content, code_content, data_content, section_bytes, section_of, start_bytes, start_section, preamble, module_bytes}
+use Rattle.wasm_grammar.specs.CanonicalModules.{HasShortContents, import_kind_bytes, import_bytes, global_bytes, export_bytes, element_bytes, local_run_bytes, function_bytes, code_bytes, segment_bytes, type_content, import_content, function_content, table_content, memory_content, global_content, export_content, element_content, code_content, data_content, section_bytes, section_of, start_bytes, start_section, preamble, module_bytes}
 use Rattle.wasm_grammar.specs.ProfileInstructions.{FitsU32, IsShortListOf}
 use Rattle.wasm_grammar.specs.Profile.{entry_limit, page_limit, OptionFits, FuncTypeFits, LimitsFit, ImportKindFits, ImportFits, GlobalFits, ExportFits, ElementFits, CodeFits, SegmentFits, IsInProfile}
 use Rattle.wasm_grammar.specs.GrammarValues.{Joined, IsUnsigned, IsVector}
 use Rattle.wasm_grammar.specs.GrammarTypes.{IsFuncType, IsLimits, IsTableType}
 use Rattle.wasm_grammar.specs.GrammarModules.{IsImportKind, IsImport, IsGlobal, IsExport, IsElement, IsLocalRun, IsFunction, IsCode, IsSegment, IsSection, IsVectorSection, IsStartSection, AreCustomSections, IsModule}
-use Rattle.wasm_spelling.specs.SpellingLaws.{HasShortContents, CanonicalBytesSpell}
+use Rattle.wasm_spelling.specs.SpellingLaws.{CanonicalBytesSpell}
 use Rattle.wasm_spelling.proofs.SpelledValues.{joined, vector, unsigneds, byte_vector, name, sized, func_type, limits, table_type}
 use Rattle.wasm_spelling.proofs.SpelledInstructions.{expression, constant}
 

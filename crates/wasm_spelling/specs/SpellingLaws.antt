@@ -1,15 +1,11 @@
 -- Laws of the relation between modules and the bytes that spell them; this project's own words.
-use Rattle.std.specs.Prelude.{◌≡◌, ℕ, ◌^◌, ◌<◌, List, ◌++◌, length}
+use Rattle.std.specs.Prelude.{◌≡◌, ℕ, List, ◌++◌}
 use Rattle.wasm_ast.specs.declared.instructions.WInstr.{WInstr}
 use Rattle.wasm_ast.specs.declared.modules.WModule.{WModule}
-use Rattle.wasm_grammar.specs.CanonicalModules.{content_of, module_bytes}
+use Rattle.wasm_grammar.specs.CanonicalModules.{HasShortContents, module_bytes}
 use Rattle.wasm_grammar.specs.Profile.{IsInProfile}
 use Rattle.wasm_grammar.specs.GrammarInstructions.{IsInstruction}
 use Rattle.wasm_grammar.specs.GrammarModules.{SpellsModule}
-
--- each section's content has fewer than 2 ^ 32 bytes
-abbrev pub HasShortContents : WModule → Type 0
-HasShortContents m = (id : ℕ) → length (content_of id m) < 2 ^ 32
 
 -- the canonical bytes of a module spell it
 abbrev pub CanonicalBytesSpell : Type 0

@@ -1,7 +1,7 @@
 use Rattle.std.proofs.Common.{refl, sym, subst, ◌∙◌}
 use Rattle.wasm_grammar.specs.Nesting.{ModuleNestsAtMost, nesting_limit}
 use Rattle.wasm_grammar.specs.Profile.{IsInProfile}
-use Rattle.wasm_spelling.specs.SpellingLaws.{HasShortContents}
+use Rattle.wasm_grammar.specs.CanonicalModules.{HasShortContents}
 use Rattle.wasm_ast.specs.declared.modules.WModule.{WModule}
 use Rattle.machine_steps.specs.Agreement.{Alike}
 use Rattle.machine_steps.specs.Ending.{BothEnd}

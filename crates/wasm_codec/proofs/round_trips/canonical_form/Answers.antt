@@ -20,6 +20,7 @@ returns-clause-form c =
     record {
       of = c.module.result.now;
       spelled = p;
+      fits = c.in_ok-encode.ensures.fits;
       canonical = c.in_ok-encode.ensures.bytes;
       again = spelled c.module.result.now c.in_ok-encode.field-0.items c.in_ok-encode.ensures.bytes p.profile c.in_ok-encode.ensures.fits;
     }

@@ -1,0 +1,4 @@
+pub mod SameTypes
+pub mod TypePlaces
+pub mod TypeOrder
+pub mod TypeLaws
