@@ -12,8 +12,8 @@ use rw_types::{List, Module};
 use std::alloc::Global;
 
 /// Checks a module. It is given back with the notes of its bodies where it is well typed, and else its
-/// first violation is told and the module is lost. Want of memory can take the place of either. What is not
-/// checked yet is answered by `NotYetBuilt`, which takes no memory.
+/// first violation is told by `Refused` and the module is lost. `Memory` can take the place of either. What is not
+/// checked yet is answered by the rule `NotYetBuilt`, which takes no memory; this project's own.
 pub fn check(alloc: Global, m: Module) -> Result<Checked, CheckError>
     ensures typed { IfOk result (λ c. (c.source ≡ m) × IsTyped m c.notes) }
     ensures refused { IfErr result (λ e. TellsFirst e m) }

@@ -13,7 +13,7 @@ use Rattle.rw_io.specs.Pieces.{append_created}
 
 -- what stands on a shelf
 pub record Holding : Type 0 where
-  -- the files, the first of a name counting, where the shelf tells them
+  -- the files, where the shelf tells them; of two with one name the first counts
   pub files : Option (List NamedFile)
   -- the name and the bytes created last, where the shelf tells them; both empty where nothing was
   pub created : Option NamedFile

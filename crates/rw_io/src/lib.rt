@@ -3,6 +3,7 @@
 #![tactic(auto)]
 
 mod error;
+mod laws;
 mod mem;
 mod os;
 mod shelf;
@@ -10,6 +11,7 @@ mod sink;
 mod whole;
 
 pub use error::{LoadError, PutError};
+pub use laws::{appends_take_the_front, puts_take_the_front};
 pub use mem::{MemShelf, MemSink};
 pub use os::{OsShelf, OsSink};
 pub use shelf::Shelf;

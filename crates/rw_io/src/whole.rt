@@ -18,7 +18,7 @@ pub enum WriteStop {
     Memory,
 }
 
-/// What ended the writing of a piece, and how many of its bytes were not taken.
+/// What ended the writing of a piece, and how many of its bytes were not taken; this project's own.
 #[derive(Clone, Copy, Debug, PartialEq, Eq, Error)]
 #[error("{left} bytes were not written")]
 pub struct Unwritten {

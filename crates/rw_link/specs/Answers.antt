@@ -13,6 +13,6 @@ pub record LinksTo (files : List (List ℕ × TypedModule)) (program : Program) 
   pub one : files ≡ (name, file) ∷ []
   pub is : program_of file ≡ Some program
 
--- the only errors so far
+-- there is no `main`, or memory is wanting
 abbrev pub IsNoMainOrMemory : LinkError → Type 0
 IsNoMainOrMemory e = (e ≡ NoMain) ⊎ (e ≡ Memory)

@@ -6,7 +6,7 @@ use std::fmt::{self, Debug, Formatter, Write};
 use thiserror::Error;
 
 /// What a link answers in place of a program. Files and their imports are numbered from 0 on, in their
-/// order. `found` is the type of the export, and `expected` that of the import.
+/// order. `found` is the type of the export, and `expected` that of the import; this project's own.
 #[derive(Drop, Error)]
 pub enum LinkError {
     #[error("files {first} and {second} have one name")]

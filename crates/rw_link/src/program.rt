@@ -9,7 +9,8 @@ use rw_types::{List, Name};
 use std::alloc::Global;
 
 /// Links files, given with their names, to the program whose main function is the export `main` of the
-/// last file. At most one file is linked so far. `NoMain` where there is none.
+/// last file. At most one file is linked so far. `NoMain` where there is none; `Memory` where memory is wanting; this
+/// project's own.
 pub fn link(alloc: Global, files: Vec<(Name, Checked)>) -> Result<Linked, LinkError>
     requires { length files.items ≤ 1 }
     ensures linked { IfOk result (λ program. LinksTo files.items program) }

@@ -1,11 +1,12 @@
 -- The linked program of one file without imports. This project's own.
-use Rattle.std.specs.Prelude.{ℕ, List, [], ◌∷◌, Option, Some, None, length, drop, codes, find}
+use Rattle.std.specs.Prelude.{◌≡◌, ℕ, ◌+◌, List, [], ◌∷◌, Option, Some, None, length, drop, codes, find}
 use Rattle.std.specs.Option.{option_map}
 use Rattle.std.specs.Str.{bytes_eq}
 use Rattle.rw_types.specs.declared.modules.ExportDef.{ExportDef}
 use Rattle.rw_types.specs.declared.modules.FuncDef.{FuncDef}
 use Rattle.rw_types.specs.declared.modules.GlobalDef.{GlobalDef}
 use Rattle.rich_meaning.specs.declared.notes.Note.{Note}
+use Rattle.rich_meaning.specs.Derivations.{IsTyped}
 use Rattle.rw_program.specs.declared.linked.LinkedFunc.{LinkedFunc}
 use Rattle.rw_program.specs.declared.linked.LinkedGlobal.{LinkedGlobal}
 use Rattle.rw_program.specs.Modules.{TypedModule}
@@ -36,3 +37,12 @@ program_of file = program_with
     (linked_funcs 0 file.source.funcs file.notes)
     (linked_globals 0 file.source.globals (drop (length file.source.funcs) file.notes))
     (exported (codes "main") file.source.exports)
+
+-- a checked module has notes for each function and each global, and none of them is dropped in a link
+pub record LinksEach (file : TypedModule) : Type 0 where
+  pub notes : length file.notes ≡ length file.source.funcs + length file.source.globals
+  pub funcs : length (linked_funcs 0 file.source.funcs file.notes) ≡ length file.source.funcs
+  pub globals : length (linked_globals 0 file.source.globals (drop (length file.source.funcs) file.notes)) ≡ length file.source.globals
+
+abbrev pub NoneDropped : Type 0
+NoneDropped = (file : TypedModule) → IsTyped file.source file.notes → LinksEach file

@@ -9,7 +9,7 @@ use std::marker::Model;
 use thiserror::Error;
 
 /// What a check answers in place of a module. `Refused` tells the first violation: its place, the
-/// rule, the type that breaks it and the type that is demanded, where there are such.
+/// rule, the type that breaks it and the type that is demanded, where there are such; this project's own.
 #[derive(Drop, Error)]
 pub enum CheckError {
     #[error("the module breaks the rule {rule:?}")]
@@ -43,7 +43,7 @@ impl Debug for CheckError {
 }
 
 /// A well-typed module, with the notes of its bodies: first those of its functions, then those of its
-/// globals. Contracts see both.
+/// globals. Contracts see both; this project's own.
 #[derive(Drop)]
 pub struct Checked {
     source: Module,

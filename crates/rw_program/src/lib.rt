@@ -2,8 +2,10 @@
 #![tactic(auto)]
 
 mod checked;
+mod laws;
 mod linked;
 
 pub use checked::{CheckError, Checked};
+pub use laws::none_dropped;
 pub use linked::{Linked, LinkedFunc, LinkedGlobal};
 pub use rich_meaning::{Note, Place, Rule};

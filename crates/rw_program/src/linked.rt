@@ -6,7 +6,7 @@ use std::marker::Model;
 
 /// A function of a linked program: the number of the file that it came from, its type, the sizes in
 /// words of the slots of its declared locals, its body with the numbers of the linked program, and the
-/// notes of the body.
+/// notes of the body; this project's own.
 #[derive(Drop)]
 pub struct LinkedFunc {
     pub file: u32,
@@ -17,7 +17,7 @@ pub struct LinkedFunc {
 }
 
 /// A global of a linked program: the number of the file that it came from, whether it can be set, its
-/// type, the instructions that give its first value, and the notes of these.
+/// type, the instructions that give its first value, and the notes of these; this project's own.
 #[derive(Drop)]
 pub struct LinkedGlobal {
     pub file: u32,
@@ -28,7 +28,7 @@ pub struct LinkedGlobal {
 }
 
 /// A linked program: the functions and the globals of its files in their order, and the number of its
-/// main function. Contracts see the three.
+/// main function. Contracts see the three; this project's own.
 #[derive(Drop)]
 pub struct Linked {
     funcs: List<LinkedFunc>,

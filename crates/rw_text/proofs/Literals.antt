@@ -6,7 +6,7 @@ use Rattle.rw_types.specs.Names.{IsName}
 use Rattle.rw_text.specs.declared.tokens.Token.{Token}
 use Rattle.rw_text.specs.declared.tokens.Token.TheVariants.{Open, Close, Word, Text}
 use Rattle.rw_text.specs.Tokens.{is_blank, is_word_byte, Ends, SpellsTokens}
-use Rattle.rw_text.specs.Programs.{head, tail}
+use Rattle.rw_text.specs.Programs.{before_body, behind_body}
 use Rattle.rw_text.proofs.TokenLemmas.{quoted-append}
 
 -- a text, spelled out
@@ -43,16 +43,16 @@ spelled bytes ts (text n form r) =
     let s = spelled _ _ r in
     (s.0, (_, record { blanks = []; text = _; is = refl; blank = refl; starts = record { is = sym (quoted-append n _); token = form; parted = tt } }, s.1), s.2)
 
-pub head_spelled : SpellsTokens (codes "(module 1 (func (fun () () ((unr i64))) (locals)") head
-head_spelled = spelled _ _
+pub before_body_spelled : SpellsTokens (codes "(module 1 (func (fun () () ((unr i64))) (locals)") before_body
+before_body_spelled = spelled _ _
     (opens (word (codes "module") refl refl (blank (word (codes "1") refl refl (blank
     (opens (word (codes "func") refl refl (blank
     (opens (word (codes "fun") refl refl (blank (opens (closes (blank (opens (closes (blank
     (opens (opens (word (codes "unr") refl refl (blank (word (codes "i64") refl refl (closes (closes (closes (blank
     (opens (word (codes "locals") refl refl (closes stop)))))))))))))))))))))))))))))
 
-pub tail_spelled : SpellsTokens (codes "(export \"main\" 0))") tail
-tail_spelled = spelled _ _
+pub behind_body_spelled : SpellsTokens (codes "(export \"main\" 0))") behind_body
+behind_body_spelled = spelled _ _
     (opens (word (codes "export") refl refl (blank (text (codes "main") record { nonempty = lit≤ tt; short = lit≤ tt; each = refl }
     (blank (word (codes "0") refl refl (closes (closes stop))))))))
 

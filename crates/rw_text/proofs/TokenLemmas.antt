@@ -113,7 +113,7 @@ pub next_none : (bytes text : List ℕ) (n : ℕ) → n ≡ prefix_len is_blank 
 next_none bytes text n count back none t rest b =
     none t rest (subst (λ (x : List ℕ). Starts x t rest) (sym (begins_text bytes t rest b) ∙ ap (λ (k : ℕ). drop k bytes) (sym count) ∙ sym back) b.starts)
 
--- the letters of a word and the bytes of a name are where their runs are
+-- the bytes of a word and the bytes of a name are where their runs are
 word_cut : (text w rest : List ℕ) → Starts text (Word w) rest → (w ≡ take (prefix_len is_word_byte text) text) × (rest ≡ drop (prefix_len is_word_byte text) text)
 word_cut text w rest s = (sym (front_of is_word_byte text w rest s.is s.token.1 s.parted), sym (back_of is_word_byte text w rest s.is s.token.1 s.parted))
 

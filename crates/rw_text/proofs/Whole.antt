@@ -1,4 +1,4 @@
--- A text as a whole: its head, its body, its tail and blanks, which are found one after another.
+-- A text as a whole: what stands before the body, the body, what stands behind it and blanks, which are found one after another.
 use Rattle.std.proofs.Common.{◌≡◌, ℕ, ◌<◌, ◌≤◌, List, [], ◌∷◌, ◌++◌, true, false, length, ◌^◌, refl, sym, ◌∙◌, ap, subst, inl, inr, arith, append_assoc}
 use Rattle.std.specs.List.{list_all}
 use Rattle.std.proofs.lemmas.Bool.{false≢true}
@@ -10,7 +10,7 @@ use Rattle.rw_text.specs.declared.tokens.Token.{Token}
 use Rattle.rw_text.specs.declared.tokens.Token.TheVariants.{Close}
 use Rattle.rw_text.specs.Numbers.{IsI64}
 use Rattle.rw_text.specs.Tokens.{is_blank, Leads}
-use Rattle.rw_text.specs.Programs.{head, tail, IsInstr, IsBody}
+use Rattle.rw_text.specs.Programs.{before_body, behind_body, IsInstr, IsBody}
 use Rattle.rw_text.specs.Found.{BodyLeads, BodyLeadsNone, InstrLeads}
 use Rattle.rw_text.specs.Spells.{Spells, SpellsNone, OneModule}
 use Rattle.rw_text.proofs.TokenLemmas.{begins_one}
@@ -26,18 +26,18 @@ pub record Parts (bytes : List ℕ) (m : Module) : Type 0 where
   pub one : List ℕ
   pub two : List ℕ
   pub rest : List ℕ
-  pub first : Leads bytes head one
+  pub first : Leads bytes before_body one
   pub middle : BodyLeads one body two
-  pub last : Leads two tail rest
+  pub last : Leads two behind_body rest
   pub blank : list_all is_blank rest ≡ true
 
 pub parts_of : (bytes : List ℕ) (m : Module) → Spells bytes m → Parts bytes m
 parts_of bytes m s =
     let p = s.2 in
     let whole = subst (λ (ts : List Token). Leads bytes ts s.1.0) p.tokens s.1.1 in
-    let first = leads_split bytes head (p.code ++ Close ∷ tail) s.1.0 whole in
-    let more = subst (λ (ts : List Token). Leads first.0 ts s.1.0) (sym (append_assoc p.code (Close ∷ []) tail)) first.2 in
-    let middle = leads_split first.0 (p.code ++ Close ∷ []) tail s.1.0 more in
+    let first = leads_split bytes before_body (p.code ++ Close ∷ behind_body) s.1.0 whole in
+    let more = subst (λ (ts : List Token). Leads first.0 ts s.1.0) (sym (append_assoc p.code (Close ∷ []) behind_body)) first.2 in
+    let middle = leads_split first.0 (p.code ++ Close ∷ []) behind_body s.1.0 more in
     record {
       body = p.body;
       is = p.is;
@@ -51,20 +51,20 @@ parts_of bytes m s =
       blank = s.1.2;
     }
 
-pub spells_from : (bytes one two rest : List ℕ) (body : List Instr) → Leads bytes head one → BodyLeads one body two → length body ≤ 1000 → Leads two tail rest → list_all is_blank rest ≡ true → Spells bytes (lone_main body)
+pub spells_from : (bytes one two rest : List ℕ) (body : List Instr) → Leads bytes before_body one → BodyLeads one body two → length body ≤ 1000 → Leads two behind_body rest → list_all is_blank rest ≡ true → Spells bytes (lone_main body)
 spells_from bytes one two rest body first middle short last blank =
-    let more = leads_join one (middle.code ++ Close ∷ []) tail two rest middle.leads last in
-    let whole = leads_join bytes head (middle.code ++ Close ∷ tail) one rest first (subst (λ (ts : List Token). Leads one ts rest) (append_assoc middle.code (Close ∷ []) tail) more) in
-    (head ++ (middle.code ++ Close ∷ tail), (rest, whole, blank), record { body = body; code = middle.code; is = refl; instrs = middle.instrs; short = short; tokens = refl })
+    let more = leads_join one (middle.code ++ Close ∷ []) behind_body two rest middle.leads last in
+    let whole = leads_join bytes before_body (middle.code ++ Close ∷ behind_body) one rest first (subst (λ (ts : List Token). Leads one ts rest) (append_assoc middle.code (Close ∷ []) behind_body) more) in
+    (before_body ++ (middle.code ++ Close ∷ behind_body), (rest, whole, blank), record { body = body; code = middle.code; is = refl; instrs = middle.instrs; short = short; tokens = refl })
 
 -- refusals, from the part that does not come
-pub no_head : (bytes : List ℕ) → ((rest : List ℕ) → Leads bytes head rest → ⊥) → SpellsNone bytes
-no_head bytes other m s = let p = parts_of bytes m s in other p.one p.first
+pub no_before_body : (bytes : List ℕ) → ((rest : List ℕ) → Leads bytes before_body rest → ⊥) → SpellsNone bytes
+no_before_body bytes other m s = let p = parts_of bytes m s in other p.one p.first
 
-pub no_body : (bytes one : List ℕ) → Leads bytes head one → BodyLeadsNone one → SpellsNone bytes
+pub no_body : (bytes one : List ℕ) → Leads bytes before_body one → BodyLeadsNone one → SpellsNone bytes
 no_body bytes one first none m s =
     let p = parts_of bytes m s in
-    none p.body p.two (subst (λ (b : List ℕ). BodyLeads b p.body p.two) (leads_one bytes head p.one one p.first first) p.middle) p.short
+    none p.body p.two (subst (λ (b : List ℕ). BodyLeads b p.body p.two) (leads_one bytes before_body p.one one p.first first) p.middle) p.short
 
 -- bodies that come at one place are one body
 body_same : (bytes : List ℕ) (xs ys : List Instr) (r s : List ℕ) → BodyStart bytes xs r → BodyStart bytes ys s → ((i : Instr) (more : List Instr) (a b : List ℕ) (zs : List Instr) → xs ≡ i ∷ more → BodyLeads a more r → BodyLeads a zs s → (more ≡ zs) × (r ≡ s)) → (xs ≡ ys) × (r ≡ s)
@@ -90,19 +90,19 @@ body_one bytes (x ∷ xs) ys r s a b =
     let both = body_one c xs zs r s (subst (λ (ws : List Instr). BodyLeads c ws r) (sym same) h) h' in
     (sym same ∙ both.0, both.1))
 
-pub no_tail : (bytes one two : List ℕ) (body : List Instr) → Leads bytes head one → BodyLeads one body two → ((rest : List ℕ) → Leads two tail rest → ⊥) → SpellsNone bytes
-no_tail bytes one two body first middle other m s =
+pub no_behind_body : (bytes one two : List ℕ) (body : List Instr) → Leads bytes before_body one → BodyLeads one body two → ((rest : List ℕ) → Leads two behind_body rest → ⊥) → SpellsNone bytes
+no_behind_body bytes one two body first middle other m s =
     let p = parts_of bytes m s in
-    let at = leads_one bytes head p.one one p.first first in
+    let at = leads_one bytes before_body p.one one p.first first in
     let same = body_one one p.body body p.two two (subst (λ (b : List ℕ). BodyLeads b p.body p.two) at p.middle) middle in
-    other p.rest (subst (λ (b : List ℕ). Leads b tail p.rest) same.1 p.last)
+    other p.rest (subst (λ (b : List ℕ). Leads b behind_body p.rest) same.1 p.last)
 
-pub no_end : (bytes one two rest : List ℕ) (body : List Instr) → Leads bytes head one → BodyLeads one body two → Leads two tail rest → list_all is_blank rest ≡ false → SpellsNone bytes
+pub no_end : (bytes one two rest : List ℕ) (body : List Instr) → Leads bytes before_body one → BodyLeads one body two → Leads two behind_body rest → list_all is_blank rest ≡ false → SpellsNone bytes
 no_end bytes one two rest body first middle last more m s =
     let p = parts_of bytes m s in
-    let at = leads_one bytes head p.one one p.first first in
+    let at = leads_one bytes before_body p.one one p.first first in
     let same = body_one one p.body body p.two two (subst (λ (b : List ℕ). BodyLeads b p.body p.two) at p.middle) middle in
-    let end = leads_one two tail p.rest rest (subst (λ (b : List ℕ). Leads b tail p.rest) same.1 p.last) last in
+    let end = leads_one two behind_body p.rest rest (subst (λ (b : List ℕ). Leads b behind_body p.rest) same.1 p.last) last in
     false≢true (sym more ∙ ap (list_all is_blank) (sym end) ∙ p.blank)
 
 -- a text spells at most one module
@@ -110,7 +110,7 @@ pub one_module : OneModule
 one_module bytes m n a b =
     let p = parts_of bytes m a in
     let q = parts_of bytes n b in
-    let at = leads_one bytes head p.one q.one p.first q.first in
+    let at = leads_one bytes before_body p.one q.one p.first q.first in
     let same = body_one q.one p.body q.body p.two q.two (subst (λ (x : List ℕ). BodyLeads x p.body p.two) at p.middle) q.middle in
     p.is ∙ ap lone_main same.0 ∙ sym q.is
 

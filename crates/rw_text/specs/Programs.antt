@@ -10,15 +10,15 @@ use Rattle.rw_text.specs.declared.tokens.Token.TheVariants.{Open, Close, Word, T
 use Rattle.rw_text.specs.Numbers.{IsI64}
 
 -- `(module 1 (func (fun () () ((unr i64))) (locals)`
-abbrev pub head : List Token
-head =
+abbrev pub before_body : List Token
+before_body =
     Open ∷ Word (codes "module") ∷ Word (codes "1") ∷ Open ∷ Word (codes "func") ∷
     Open ∷ Word (codes "fun") ∷ Open ∷ Close ∷ Open ∷ Close ∷ Open ∷ Open ∷ Word (codes "unr") ∷ Word (codes "i64") ∷ Close ∷ Close ∷ Close ∷
     Open ∷ Word (codes "locals") ∷ Close ∷ []
 
 -- `(export "main" 0))`
-abbrev pub tail : List Token
-tail = Open ∷ Word (codes "export") ∷ Text (codes "main") ∷ Word (codes "0") ∷ Close ∷ Close ∷ []
+abbrev pub behind_body : List Token
+behind_body = Open ∷ Word (codes "export") ∷ Text (codes "main") ∷ Word (codes "0") ∷ Close ∷ Close ∷ []
 
 -- the tokens of an instruction
 abbrev pub IsInstr : Instr → List Token → Type 0
@@ -40,4 +40,4 @@ pub record IsProgram (ts : List Token) (m : Module) : Type 0 where
   pub is : m ≡ lone_main body
   pub instrs : IsBody body code
   pub short : length body ≤ 1000
-  pub tokens : ts ≡ head ++ (code ++ Close ∷ tail)
+  pub tokens : ts ≡ before_body ++ (code ++ Close ∷ behind_body)

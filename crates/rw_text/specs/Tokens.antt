@@ -21,19 +21,19 @@ spelling Close = codes ")"
 spelling (Word w) = w
 spelling (Text n) = 34 ∷ (n ++ 34 ∷ [])
 
--- a word has letters, and no others; what stands in quotes is a name
+-- a word is one byte or more, each of which may stand in a word; what stands in quotes is a name
 abbrev pub IsToken : Token → Type 0
 IsToken Open = ⊤
 IsToken Close = ⊤
 IsToken (Word w) = (0 < length w) × IsTrue (list_all is_word_byte w)
 IsToken (Text n) = IsName n
 
--- bytes of which the first does not pass
+-- no bytes, or bytes of which the first does not pass the test
 abbrev pub Ends : (ℕ → Bool) → List ℕ → Type 0
 Ends p [] = ⊤
 Ends p (b ∷ bs) = p b ≡ false
 
--- what may follow a token directly: after a word, no letter of a word
+-- what may follow a token directly: after a word, no byte that may stand in one
 abbrev pub MayFollow : Token → List ℕ → Type 0
 MayFollow (Word w) rest = Ends is_word_byte rest
 MayFollow _ rest = ⊤

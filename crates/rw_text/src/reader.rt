@@ -8,7 +8,7 @@ use crate::tokens::Tokens;
 use rw_types::{ExportDef, FunType, FuncDef, Instr, List, Module, Name, Pre, Qual, Ty};
 use std::alloc::{AllocError, Global};
 
-/// Why a text is not read.
+/// Why a text is not read; this project's own.
 #[derive(Clone, Copy, PartialEq, Eq, Debug)]
 pub enum TextFault {
     /// The text is none of those that are read so far.
@@ -17,7 +17,8 @@ pub enum TextFault {
     Memory,
 }
 
-/// A fault, with its line and its column in bytes, both counted from 1. Beside `Memory` both are 0.
+/// A fault, with its line and its column in bytes, both counted from 1. Beside `Memory` both are 0; this project's
+/// own.
 #[derive(Clone, Copy, PartialEq, Eq, Debug)]
 pub struct TextError {
     pub line: u32,
@@ -25,11 +26,13 @@ pub struct TextError {
     pub fault: TextFault,
 }
 
-const HEAD: &[u8] = b"(module 1 (func (fun () () ((unr i64))) (locals)";
+const BEFORE_BODY: &[u8] = b"(module 1 (func (fun () () ((unr i64))) (locals)";
 
-const TAIL: &[u8] = b"(export \"main\" 0))";
+const BEHIND_BODY: &[u8] = b"(export \"main\" 0))";
 
-/// The module that a Rich text spells.
+/// The module that a Rich text spells. `NotYetBuilt` at line 1 and column 1 where it spells no module of one function
+/// `main` without parameters and locals, with at most 1,000 constants, additions, prints and drops; `Memory` where
+/// memory is wanting; this project's own.
 pub fn read(alloc: Global, bytes: &[u8]) -> Result<Module, TextError>
     ensures spelled { IfOk result (Spells bytes.now) }
     ensures form { IfOk result IsLoneMain }
@@ -55,13 +58,13 @@ fn program(alloc: Global, bytes: &[u8]) -> Result<Option<Module>, AllocError>
     ensures { IfOk result (λ o. MatchOption o (SpellsNone bytes.now) (λ m. Spells bytes.now m × IsLoneMain m)) }
 {
     let mut tokens = Tokens::new(bytes);
-    if !tokens.accept(HEAD) {
+    if !tokens.accept(BEFORE_BODY) {
         return Ok(None);
     }
     let Some(body) = body(alloc, &mut tokens)? else {
         return Ok(None);
     };
-    if !tokens.accept(TAIL) {
+    if !tokens.accept(BEHIND_BODY) {
         return Ok(None);
     }
     if !tokens.is_at_end() {

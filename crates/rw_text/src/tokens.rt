@@ -33,12 +33,12 @@ impl<'a> Spelling<'a> {
     }
 }
 
-/// A token of a Rich text.
+/// A token of a Rich text; this project's own.
 #[derive(Debug, Drop)]
 pub enum Token<'a> {
     Open,
     Close,
-    /// Its letters.
+    /// The bytes of the word.
     Word(Spelling<'a>),
     /// The name between the quotes.
     Text(Spelling<'a>),
@@ -149,8 +149,8 @@ fn is_blank(byte: u8) -> bool
     matches!(byte, b' ' | b'\t' | b'\n' | b'\r')
 }
 
-/// The number of letters of words at the front.
-fn letters(text: &[u8]) -> usize
+/// How many bytes at the front may stand in a word.
+fn word_bytes(text: &[u8]) -> usize
     ensures count { result ≡ prefix_len is_word_byte text.now }
     ensures within { result ≤ length text.now }
 {
@@ -204,7 +204,7 @@ fn first_word<'a>(text: &'a [u8]) -> Option<(Token<'a>, &'a [u8])>
     ensures found { IfSome result (λ p. Starts text.now p.0 p.1.now) }
     ensures none { IfNone result (StartsNone text.now) }
 {
-    let end = letters(text);
+    let end = word_bytes(text);
     if end == 0 {
         return None;
     }

@@ -9,7 +9,7 @@ use Rattle.rw_types.specs.declared.types.Pre.{I64}
 use Rattle.rw_types.specs.declared.types.Qual.TheVariants.{Unr}
 use Rattle.rw_types.specs.declared.types.Ty.{Of}
 
--- a number of 64 bits is put there, two are added, one is printed, or one is dropped
+-- the instructions that are read so far: a constant of 64 bits, the addition, the print and the drop
 abbrev pub IsPlain : Instr → Type 0
 IsPlain (I64Const n) = n < 2 ^ 64
 IsPlain (Num I64Add) = ⊤

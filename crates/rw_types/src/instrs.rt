@@ -3,7 +3,7 @@ use crate::numbers::NumName;
 use crate::types::{Arg, Mem, Qual, Ty};
 
 /// The signature of a block: what it takes, what it gives, and the locals that have another type
-/// afterwards.
+/// afterwards; this project's own.
 #[derive(Drop)]
 pub struct BlockSig {
     pub params: List<Ty>,
@@ -11,14 +11,14 @@ pub struct BlockSig {
     pub locals: List<LocalTy>,
 }
 
-/// A local, and its type after a block.
+/// A local, and its type after a block; this project's own.
 #[derive(Drop)]
 pub struct LocalTy {
     pub index: u32,
     pub ty: Ty,
 }
 
-/// An instruction, with its immediates in the order of the text.
+/// An instruction, with its immediates in the order of the text; this project's own.
 #[derive(Drop)]
 pub enum Instr {
     Nop,

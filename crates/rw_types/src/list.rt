@@ -7,7 +7,7 @@ use std::marker::Model;
 /// The most entries that a list can have.
 const MAX_LEN: usize = u32::MAX as usize;
 
-/// A vector of fewer than 2^32 entries. Contracts see it as the list of its entries.
+/// A vector of fewer than 2^32 entries. Contracts see it as the list of its entries; this project's own.
 #[derive(Debug, Drop)]
 pub struct List<T> {
     items: Vec<T>,

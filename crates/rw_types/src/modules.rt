@@ -3,7 +3,7 @@ use crate::list::List;
 use crate::name::Name;
 use crate::types::{FunType, Ty};
 
-/// A module. Its functions are numbered from 0 on, the imports first.
+/// A module. Its functions are numbered from 0 on, the imports first; this project's own.
 #[derive(Drop)]
 pub struct Module {
     pub imports: List<ImportDef>,
@@ -12,7 +12,7 @@ pub struct Module {
     pub exports: List<ExportDef>,
 }
 
-/// An import: a function that another module exports under this name.
+/// An import: a function that another module exports under this name; this project's own.
 #[derive(Drop)]
 pub struct ImportDef {
     pub module: Name,
@@ -20,7 +20,8 @@ pub struct ImportDef {
     pub ty: FunType,
 }
 
-/// A function: its type, the sizes in words of the slots of its declared locals, and its body.
+/// A function: its type, the sizes in words of the slots of its declared locals, and its body; this
+/// project's own.
 #[derive(Drop)]
 pub struct FuncDef {
     pub ty: FunType,
@@ -28,7 +29,8 @@ pub struct FuncDef {
     pub body: List<Instr>,
 }
 
-/// A global: whether it can be set, its type, and the instructions that give its first value.
+/// A global: whether it can be set, its type, and the instructions that give its first value; this
+/// project's own.
 #[derive(Drop)]
 pub struct GlobalDef {
     pub mutable: bool,
@@ -36,7 +38,7 @@ pub struct GlobalDef {
     pub body: List<Instr>,
 }
 
-/// An export: a name, and the number of the function that it names.
+/// An export: a name, and the number of the function that it names; this project's own.
 #[derive(Drop)]
 pub struct ExportDef {
     pub name: Name,

@@ -7,7 +7,7 @@ use crate::list::List;
 use std::marker::Model;
 
 /// The name of a module, an import or an export: 1 to 64 bytes, each `a` to `z`, `0` to `9` or `_`.
-/// Contracts see it as the list of its bytes.
+/// Contracts see it as the list of its bytes; this project's own.
 #[derive(Debug, Drop)]
 pub struct Name {
     bytes: List<u8>,
@@ -31,7 +31,7 @@ impl Name {
     /// The most bytes that a name can have.
     pub const MAX_LEN: usize = 64;
 
-    /// The name of these bytes; none where they are no name.
+    /// The name of these bytes; `None` where they are no name.
     pub fn new(bytes: List<u8>) -> Option<Name>
         ensures { SomeIff result (IsName bytes) bytes }
     {

@@ -1,5 +1,5 @@
-/// The number instructions, which are those of WebAssembly 1.0 by their names there, in the order of
-/// their opcodes.
+/// The number instructions: the integer instructions of WebAssembly under their names there, in the order of their
+/// opcodes (WebAssembly Core Specification 1.0, section 5.4.5).
 #[derive(Clone, Copy, PartialEq, Eq, Debug)]
 pub enum NumName {
     I32Eqz,

@@ -1,28 +1,30 @@
 use crate::list::List;
 use sqlite_items::Boxed;
 
-/// Whether a value may be dropped and copied (`Unr`) or is used exactly once (`Lin`). `Unr` is below `Lin`.
+/// Whether a value may be dropped and copied (`Unr`) or is used exactly once (`Lin`). `Unr` is below `Lin`; this
+/// project's own.
 #[derive(Clone, Copy, PartialEq, Eq, Debug)]
 pub enum Qual {
     Unr,
     Lin,
 }
 
-/// A memory: linear (`L`), or unrestricted (`U`).
+/// A memory: linear (`L`), or unrestricted (`U`); this project's own.
 #[derive(Clone, Copy, PartialEq, Eq, Debug)]
 pub enum Mem {
     L,
     U,
 }
 
-/// What a reference or a capability allows: to read and write, or to read alone.
+/// What a reference or a capability allows: to read and write, or to read alone; this project's own.
 #[derive(Clone, Copy, PartialEq, Eq, Debug)]
 pub enum Priv {
     Rw,
     R,
 }
 
-/// A binder of a function type: a location of a memory, or a type of a qualifier and a size in words.
+/// A binder of a function type: a location of a memory, or a type of a qualifier and a size in words; this
+/// project's own.
 #[derive(Clone, Copy, PartialEq, Eq, Debug)]
 pub enum Binder {
     Loc(Mem),
@@ -30,7 +32,7 @@ pub enum Binder {
 }
 
 /// A type. Locations and type variables are numbered outwards from the innermost binder, apart from
-/// each other.
+/// each other; this project's own.
 #[cycle(types)]
 #[derive(Drop)]
 pub enum Ty {
@@ -42,7 +44,7 @@ pub enum Ty {
     Rec(Qual, u32, Boxed<Ty>),
 }
 
-/// A type without its qualifier.
+/// A type without its qualifier; this project's own.
 #[cycle(types)]
 #[derive(Drop)]
 pub enum Pre {
@@ -63,7 +65,7 @@ pub enum Pre {
     Code(Boxed<FunType>),
 }
 
-/// What stands at a location.
+/// What stands at a location; this project's own.
 #[cycle(types)]
 #[derive(Drop)]
 pub enum Heap {
@@ -74,7 +76,7 @@ pub enum Heap {
     Exist(Qual, u32, Boxed<Ty>),
 }
 
-/// A slot of a struct: its type now, and its size in words.
+/// A slot of a struct: its type now, and its size in words; this project's own.
 #[cycle(types)]
 #[derive(Drop)]
 pub struct Slot {
@@ -82,7 +84,7 @@ pub struct Slot {
     pub size: u32,
 }
 
-/// The type of a function. The last of its binders is the innermost.
+/// The type of a function. The last of its binders is the innermost; this project's own.
 #[cycle(types)]
 #[derive(Drop)]
 pub struct FunType {
@@ -91,7 +93,7 @@ pub struct FunType {
     pub results: List<Ty>,
 }
 
-/// What answers a binder: a location, or a type.
+/// What answers a binder: a location, or a type; this project's own.
 #[derive(Drop)]
 pub enum Arg {
     Loc(u32),

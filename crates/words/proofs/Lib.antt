@@ -1,4 +1,5 @@
 pub mod Slashes
+pub mod Sources
 pub mod Values
 pub mod Decimals
 pub mod Splitting

@@ -4,7 +4,7 @@ use Rattle.std.proofs.lemmas.Bool.Decides.{nat_tests}
 use Rattle.std.specs.List.{list_any, after_first, position_or_len}
 use Rattle.words.specs.Files.{after_last_slash}
 
-abbrev is_slash : ℕ → Bool
+abbrev pub is_slash : ℕ → Bool
 is_slash b = b == 47
 
 no_slash_step : (t any : Bool) (b : ℕ) (bs rest : List ℕ) → (t || any) ≡ false → cond any rest (cond t bs (b ∷ bs)) ≡ b ∷ bs
@@ -13,7 +13,7 @@ no_slash_step false true b bs rest h = absurd cc
 no_slash_step false false b bs rest h = refl
 
 -- where there is no slash, all of it
-no_slash : (s : List ℕ) → list_any is_slash s ≡ false → after_last_slash s ≡ s
+pub no_slash : (s : List ℕ) → list_any is_slash s ≡ false → after_last_slash s ≡ s
 no_slash [] h = refl
 no_slash (b ∷ bs) h = no_slash_step (b == 47) (list_any is_slash bs) b bs (after_last_slash bs) h
 

@@ -1,4 +1,5 @@
 pub mod Files
+pub mod Sources
 pub mod Words
 pub mod Found
 pub mod Reading

@@ -1,9 +1,10 @@
 // The names of files: which are plain words, and which are those of sources.
 ghost use Rattle.std.specs.Prelude.{◌≡◌, ◌==◌, ◌<◌, ◌+◌, ◌^◌, length, position, IfSome};
-ghost use Rattle.std.specs.List.{list_all};
 ghost use Rattle.std.specs.Option.{option_copied};
 ghost use Rattle.words.specs.Files.{is_plain_name, is_source_file, is_module_name, after_last_slash, module_name_of};
-ghost use Rattle.rw_types.specs.Names.{is_name_byte};
+ghost use Rattle.rw_types.specs.Names.{IsName};
+
+use rw_types::is_name;
 
 /// Whether a word is a name: it is not empty and does not begin with a dash.
 pub fn is_plain(word: &str) -> bool
@@ -26,13 +27,7 @@ pub fn is_source(file: &str) -> bool
 fn is_module(name: &[u8]) -> bool
     ensures { result ≡ is_module_name name.now }
 {
-    !name.is_empty() && name.len() <= 64 && has_name_bytes(name)
-}
-
-fn has_name_bytes(name: &[u8]) -> bool
-    ensures { result ≡ list_all is_name_byte name.now }
-{
-    name.iter().all(|b| b.is_ascii_lowercase() || b.is_ascii_digit() || *b == b'_')
+    is_name(name)
 }
 
 /// The name of a file's module: the last part of the file's name, without `.rich`.

@@ -19,7 +19,7 @@ mod tests;
 use by_clap::read_by_clap;
 use clap::error::ErrorKind;
 pub use files::module_name;
-pub use laws::one_command;
+pub use laws::{one_command, source_files};
 use plain::plain_command;
 use std::alloc::{AllocError, Global};
 
