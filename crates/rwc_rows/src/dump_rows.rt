@@ -11,9 +11,11 @@ const LONG_COUNT: &[u8] = b"\0asm\x01\0\0\0\x01\x02\x80\0";
 // A number of six bytes.
 const BAD_LEB: &[u8] = b"\0asm\x01\0\0\0\x01\x05\x80\x80\x80\x80\x1F";
 
-const NO_COUNTS: &str = "types 0\nimports 0\nfunctions 0\ntables 0\nmemories 0\nglobals 0\nexports 0\nstart no\nelements 0\nsegments 0\ncanonical no\n";
+const NO_COUNTS: &str =
+    "types 0\nimports 0\nfunctions 0\ntables 0\nmemories 0\nglobals 0\nexports 0\nstart no\nelements 0\nsegments 0\ncanonical no\n";
 
-const SEVEN_COUNTS: &str = "types 4\nimports 1\nfunctions 5\ntables 1\nmemories 1\nglobals 3\nexports 3\nstart no\nelements 1\nsegments 1\ncanonical yes\n";
+const SEVEN_COUNTS: &str =
+    "types 4\nimports 1\nfunctions 5\ntables 1\nmemories 1\nglobals 3\nexports 3\nstart no\nelements 1\nsegments 1\ncanonical yes\n";
 
 const ROWS: [Row; 15] = [
     Row {

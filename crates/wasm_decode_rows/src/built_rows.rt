@@ -54,7 +54,10 @@ fn fault_of_front(length: usize) -> Option<DecodeError> {
 fn each_front_of_a_built_binary(rt: HostRuntime) {
     let alloc = rt.alloc();
     for length in 0..193 {
-        assert!(rt; has(alloc, &SEVEN[..length], fault_of_front(length)), "{length}");
+        assert!(rt;
+            has(alloc, &SEVEN[..length], fault_of_front(length)),
+            "{length}"
+        );
     }
 }
 
@@ -86,9 +89,15 @@ fn other_bytes_in_the_preamble(rt: HostRuntime) -> Result<(), Fail> {
 fn other_ids_of_sections(rt: HostRuntime) -> Result<(), Fail> {
     for (at, before) in IDS {
         for byte in [0x0C, 0x80, 0xFF] {
-            assert!(rt; breaks_at(rt.alloc(), at, byte, DecodeFault::BadTag)?, "{at} {byte}");
+            assert!(rt;
+                breaks_at(rt.alloc(), at, byte, DecodeFault::BadTag)?,
+                "{at} {byte}"
+            );
         }
-        assert!(rt; breaks_at(rt.alloc(), at, before, DecodeFault::BadOrder)?, "{at} {before}");
+        assert!(rt;
+            breaks_at(rt.alloc(), at, before, DecodeFault::BadOrder)?,
+            "{at} {before}"
+        );
     }
     Ok(())
 }
