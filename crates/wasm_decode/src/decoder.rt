@@ -29,6 +29,7 @@ impl Decoder {
     pub fn new(alloc: Global) -> Decoder
         ensures starts { Resumes result [] }
         ensures whole { error_of result ≡ None }
+        ensures counted { at_of result ≡ 0 }
     {
         Decoder {
             alloc,
@@ -61,8 +62,11 @@ impl Decoder {
         ensures resumes { OnOk result ((fed : List ℕ) → Resumes self.old fed → Resumes self.new (fed ++ piece.now)) }
         ensures settled { IfErr result (λ e. (fed : List ℕ) → Resumes self.old fed → (e ≡ no_memory) ⊎ IsSettled (fed ++ piece.now) e) }
         ensures undecided { OnOk result ((fed : List ℕ) → Resumes self.old fed → (e : DecodeError) → IsSettled (fed ++ piece.now) e → ⊥) }
+        ensures whole { OnOk result (error_of self.new ≡ None) }
+        ensures counted { OnOk result (at_of self.new ≡ at_of self.old + length piece.now) }
         ensures kept { IfErr result (λ e. error_of self.new ≡ Some e) }
         ensures again { (e : DecodeError) → error_of self.old ≡ Some e → result ≡ Err e }
+        ensures left { OnOk result (length piece.now ≤ custom_left_of self.old → custom_left_of self.new ≡ custom_left_of self.old - length piece.now) }
         ensures custom { error_of self.old ≡ None → length piece.now ≤ custom_left_of self.old → at_of self.old + length piece.now < 2 ^ 64 → IsOk result }
     {
         match self.failed {
@@ -77,7 +81,9 @@ impl Decoder {
         ensures ok { OnOk result ((rest : List ℕ) → answer_of self.new rest ≡ answer_of self.old (piece.now ++ rest)) }
         ensures whole { OnOk result (error_of self.new ≡ None) }
         ensures err { IfErr result (λ e. (e ≡ no_memory) ⊎ ((rest : List ℕ) → answer_of self.old (piece.now ++ rest) ≡ Err e)) }
+        ensures counted { OnOk result (at_of self.new ≡ at_of self.old + length piece.now) }
         ensures kept { IfErr result (λ e. error_of self.new ≡ Some e) }
+        ensures left { OnOk result (length piece.now ≤ custom_left_of self.old → custom_left_of self.new ≡ custom_left_of self.old - length piece.now) }
         ensures custom { length piece.now ≤ custom_left_of self.old → at_of self.old + length piece.now < 2 ^ 64 → IsOk result }
     {
         for byte in piece {
