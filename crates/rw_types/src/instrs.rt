@@ -1,6 +1,6 @@
-use crate::list::List;
 use crate::numbers::NumName;
 use crate::types::{Arg, Mem, Qual, Ty};
+use bounded_list::List;
 
 /// The signature of a block: what it takes, what it gives, and the locals that have another type
 /// afterwards; this project's own.

@@ -1,15 +1,14 @@
-//! Trees of Rich modules: types, instructions, fields, and the lists and names that they hold.
+//! Trees of Rich modules: types, instructions, fields, and the names that they hold.
 #![tactic(auto)]
 
 mod instrs;
-mod list;
 mod modules;
 mod name;
 mod numbers;
 mod types;
 
+pub use bounded_list::List;
 pub use instrs::{BlockSig, Instr, LocalTy};
-pub use list::List;
 pub use modules::{ExportDef, FuncDef, GlobalDef, ImportDef, Module};
 pub use name::{Name, is_name};
 pub use numbers::NumName;

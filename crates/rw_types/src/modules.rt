@@ -1,7 +1,7 @@
 use crate::instrs::Instr;
-use crate::list::List;
 use crate::name::Name;
 use crate::types::{FunType, Ty};
+use bounded_list::List;
 
 /// A module. Its functions are numbered from 0 on, the imports first; this project's own.
 #[derive(Drop)]

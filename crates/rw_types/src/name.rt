@@ -3,7 +3,7 @@ ghost use Rattle.std.specs.List.{list_all};
 ghost use Rattle.std.specs.Option.{SomeIff};
 ghost use Rattle.rw_types.specs.Names.{IsName, is_name_byte};
 
-use crate::list::List;
+use bounded_list::List;
 use std::marker::Model;
 
 /// The name of a module, an import or an export: 1 to 64 bytes, each `a` to `z`, `0` to `9` or `_`.

@@ -1,4 +1,4 @@
-use crate::list::List;
+use bounded_list::List;
 use sqlite_items::Boxed;
 
 /// Whether a value may be dropped and copied (`Unr`) or is used exactly once (`Lin`). `Unr` is below `Lin`; this

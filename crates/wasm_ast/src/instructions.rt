@@ -1,5 +1,5 @@
-use crate::list::List;
 use crate::types::ValTy;
+use bounded_list::List;
 
 /// An instruction (WebAssembly Core Specification 1.0, section 2.4), in the order of the opcodes
 /// (section 5.4). Constants are bit patterns. A load or store has its alignment exponent and its offset.

@@ -5,16 +5,15 @@ mod by_opcode;
 mod immediate;
 mod instructions;
 mod laws;
-mod list;
 mod modules;
 mod opcode;
 mod types;
 
+pub use bounded_list::List;
 pub use by_opcode::{bare_instruction, index_instruction, memory_instruction, zero_instruction};
 pub use immediate::ImmediateRef;
 pub use instructions::WInstr;
 pub use laws::opcodes_tell_apart;
-pub use list::List;
 pub use modules::{
     Code, DataSeg, ElemSeg, Export, ExportKind, Import, ImportKind, LocalRun, WGlobal, WModule,
 };

@@ -1,6 +1,6 @@
 use crate::instructions::WInstr;
-use crate::list::List;
 use crate::types::{FuncType, Limits, ValTy};
+use bounded_list::List;
 
 /// A module (WebAssembly Core Specification 1.0, section 2.5). `funcs` holds each function's type index,
 /// and `codes` each function's locals and body.

@@ -1,8 +1,8 @@
 use crate::by_opcode::{bare_instruction, index_instruction, memory_instruction, zero_instruction};
 use crate::immediate::ImmediateRef;
 use crate::instructions::WInstr;
-use crate::list::List;
 use crate::types::ValTy;
+use bounded_list::List;
 use std::test::Fail;
 
 // The opcodes of the WebAssembly Core Specification 1.0, appendix "Index of Instructions".
@@ -51,20 +51,6 @@ fn immediates_of_a_branch_table_and_an_if(rt: HostRuntime) -> Result<(), Fail> {
             ImmediateRef::Bodies(Some(ValTy::I64), [WInstr::Nop], [])
         )
     );
-    Ok(())
-}
-
-#[test]
-fn a_list_keeps_its_entries(rt: HostRuntime) -> Result<(), Fail> {
-    let mut list = List::new(rt.alloc());
-    assert!(rt; list.is_empty());
-    list.push(5u32)?;
-    list.push(7)?;
-    assert_eq!(rt; list.len(), 2);
-    assert_eq!(rt; list.get(1), Some(&7));
-    assert_eq!(rt; list.as_slice(), [5, 7].as_slice());
-    let same = List::from_vec(vec![in rt.alloc(); 5u32, 7]?)?;
-    assert_eq!(rt; same.as_slice(), list.as_slice());
     Ok(())
 }
 

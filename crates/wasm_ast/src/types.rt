@@ -1,4 +1,4 @@
-use crate::list::List;
+use bounded_list::List;
 
 /// A value type of the profile (WebAssembly Core Specification 1.0, section 2.3.1).
 #[derive(Clone, Copy, Debug, PartialEq, Eq)]

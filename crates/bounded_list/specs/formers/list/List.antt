@@ -1,8 +1,8 @@
--- `List` as a type that may hold the type that holds it: how its values split into entries and a shape.
+-- `List` as a type that may hold the type that holds it: where its entries lie, and what is beside
+-- them. This project's own; the names and their order are those that the check of a container asks.
 use mathlib.Core.Path.{◌≡◌, refl, sym}
 use mathlib.Core.List.{List, []}
 use mathlib.Core.Former.{Former, this, list, via, children}
-use native.Mathlib.Bridge.{le_prop}
 use base.Stored.{code_map}
 use denote.RattleType.{RattleType}
 use denote.HoleLaws.{Alike}
@@ -11,15 +11,16 @@ use denote.Hole.Carrier.{listed, list-listed}
 use denote.Hole.Fix.{over}
 use denote.Param.Weighed.{Weighed, w_list}
 use denote.Model.Placed.{view_places}
+use Rattle.std.proofs.Math.Bridge.{le_prop}
 use Rattle.std.proofs.lemmas.List.{length-map}
 use Rattle.std.specs.formers.vec.Vec as vec
 use Rattle.std.specs.declared.alloc.Global.{Global}
 use Rattle.std.specs.contracts.alloc.Global as heap
 use Rattle.std.specs.contracts.impls.GlobalAllocator.TheImpl.{ghosts}
-use Rattle.wasm_ast.specs.declared.list.List.TheInside.{Inside}
-use Rattle.wasm_ast.specs.declared.list.List.TheView.{view, invariant}
-use Rattle.wasm_ast.specs.contracts.list.List as C
-use Rattle.wasm_ast.specs.contracts.list.List.TheInside as I
+use Rattle.bounded_list.specs.declared.list.List.TheInside.{Inside}
+use Rattle.bounded_list.specs.declared.list.List.TheView.{view, invariant}
+use Rattle.bounded_list.specs.contracts.list.List as C
+use Rattle.bounded_list.specs.contracts.list.List.TheInside as I
 
 abbrev pub the_former : Former {0} → Former {0}
 the_former g = list g
@@ -42,7 +43,8 @@ fields = via (vec.the_former this Global) Inside (λ X a. a.items) (λ X v. reco
 module _ (R S : RattleType) (h : R.Denot → S.Denot) where
   pub the_places : Alike R S h → Alike (C.the_row R) (C.the_row S) ((the_former this).map R.Denot S.Denot h)
   the_places a = view_places fields (list this) view (λ X Y k u. refl) (λ X u. refl) R.Denot S.Denot h (C.the_row R).coded (C.the_row S).coded
-      (invariant R.Denot) (invariant S.Denot) (λ u. le_prop) (λ u. le_prop) (λ u e. rw (length-map u.items.items h) e) (λ u e. rw (length-map u.items.items h) at e)
+      (invariant R.Denot) (invariant S.Denot) (λ u. le_prop) (λ u. le_prop)
+      (λ u e. rw (length-map u.items.items h) e) (λ u e. rw (length-map u.items.items h) at e)
       (over (I.the_row R)) (over (I.the_row S))
       (struct_places (I.the_type R) (I.the_type S) (vec.mapped h, tt) _ (λ d. refl) refl (laid _ _ _ (vec.the_places heap.the_row ghosts R S h a), tt))
 

@@ -1,4 +1,4 @@
-ghost use Rattle.std.specs.Prelude.{◌≡◌, ◌↔◌, ◌^◌, ◌<◌, ◌≤◌, [], ◌∷◌, ◌++◌, length, slice_get, IsTrue, IfOk, OnOk, OnErr, MatchOption, MatchResult};
+ghost use Rattle.std.specs.Prelude.{◌≡◌, ◌↔◌, ◌==◌, ◌^◌, ◌<◌, ◌≤◌, [], ◌∷◌, ◌++◌, length, slice_get, IsTrue, IfOk, OnOk, OnErr, OnSome, MatchOption, MatchResult};
 ghost use Rattle.std.specs.Option.{option_copied};
 
 use std::alloc::{AllocError, Global};
@@ -7,7 +7,8 @@ use std::marker::Model;
 /// The most entries that a list can have.
 const MAX_LEN: usize = u32::MAX as usize;
 
-/// A vector of fewer than 2^32 entries. Contracts see it as the list of its entries; this project's own.
+/// A list of fewer than 2^32 entries, so that their count is a `u32`, as that of a vector is
+/// (WebAssembly Core Specification 1.0, section 5.1.3). Contracts see it as the list of its entries.
 #[derive(Debug, Drop)]
 pub struct List<T> {
     items: Vec<T>,
@@ -36,6 +37,7 @@ impl<T> List<T> {
         }
     }
 
+    /// How many entries there are.
     pub fn len(&self) -> usize
         ensures count { result ≡ length self.now }
         ensures bound { length self.now < 2 ^ 32 }
@@ -43,8 +45,10 @@ impl<T> List<T> {
         self.items.len()
     }
 
+    /// Whether there is no entry.
     pub fn is_empty(&self) -> bool
-        ensures { IsTrue result ↔ (self.now ≡ []) }
+        ensures count { result ≡ (length self.now == 0) }
+        ensures empty { IsTrue result ↔ (self.now ≡ []) }
     {
         self.items.is_empty()
     }
@@ -59,7 +63,8 @@ impl<T> List<T> {
 
     /// The entry with this number, counted from 0.
     pub fn get(&self, at: usize) -> Option<&T>
-        ensures { option_copied result ≡ slice_get self.now at }
+        ensures value { option_copied result ≡ slice_get self.now at }
+        ensures within { OnSome result (at < length self.now) }
     {
         self.items.get(at)
     }
@@ -73,7 +78,7 @@ impl<T> List<T> {
 }
 
 impl<T: Drop> List<T> {
-    /// The entries of a vector. `AllocError` exactly where there are 2^32 or more.
+    /// The entries of a `Vec`. `AllocError` exactly where there are 2^32 or more.
     pub fn from_vec(items: Vec<T>) -> Result<List<T>, AllocError>
         ensures { MatchResult result (λ list. list ≡ items.items) (λ _. 2 ^ 32 ≤ length items.items) }
     {
@@ -86,6 +91,7 @@ impl<T: Drop> List<T> {
     /// Puts `item` at the end. `AllocError` where memory is wanting, and where the list is full.
     pub fn push(&mut self, item: T) -> Result<(), AllocError>
         ensures ok { OnOk result (self.new ≡ self.old ++ item ∷ []) }
+        ensures room { OnOk result (length self.new < 2 ^ 32) }
         ensures err { OnErr result (self.new ≡ self.old) }
     {
         if self.items.len() >= MAX_LEN {
@@ -99,7 +105,8 @@ impl<T: Drop> List<T> {
 impl<T: Copy> List<T> {
     /// A copy of these entries. `AllocError` where memory is wanting, and where there are 2^32 or more.
     pub fn from_slice(alloc: Global, items: &[T]) -> Result<List<T>, AllocError>
-        ensures { IfOk result (λ list. list ≡ items.now) }
+        ensures ok { IfOk result (λ list. list ≡ items.now) }
+        ensures bound { OnOk result (length items.now < 2 ^ 32) }
     {
         List::from_vec(Vec::from_slice(alloc, items)?)
     }
@@ -128,6 +135,8 @@ mod tests {
     fn copies_slices(rt: HostRuntime) -> Result<(), Fail> {
         let list = List::from_slice(rt.alloc(), b"main")?;
         assert_eq!(rt; list.as_slice(), b"main".as_slice());
+        let same = List::from_vec(vec![in rt.alloc(); 5u32, 7]?)?;
+        assert_eq!(rt; same.as_slice(), [5, 7].as_slice());
         Ok(())
     }
 }
