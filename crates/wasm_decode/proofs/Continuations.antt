@@ -15,11 +15,12 @@ use Rattle.wasm_decode.specs.declared.steps.Step.{Step}
 use Rattle.wasm_decode.specs.declared.steps.Step.TheVariants.{Preamble, Between, Size, Custom, Content}
 use Rattle.wasm_decode.specs.Decoding.{answer_of, IsSettled, Resumes}
 use Rattle.wasm_decode.specs.Steps.{IsTruncated, rest_of_step, sections_left}
+use Rattle.wasm_decode.specs.CustomSteps.{IsBetween}
 use Rattle.wasm_decode.proofs.Advancing.{preamble_over}
 use Rattle.wasm_decode.proofs.Decoding.{answer_wanting, answer_whole, preamble_truncated, size_truncated, custom_truncated, content_truncated}
 
 -- behind a piece
-resumes_behind : (d d' : Decoder) (piece : List ℕ) → ((rest : List ℕ) → answer_of d' rest ≡ answer_of d (piece ++ rest)) → (fed : List ℕ) → Resumes d fed → Resumes d' (fed ++ piece)
+pub resumes_behind : (d d' : Decoder) (piece : List ℕ) → ((rest : List ℕ) → answer_of d' rest ≡ answer_of d (piece ++ rest)) → (fed : List ℕ) → Resumes d fed → Resumes d' (fed ++ piece)
 resumes_behind d d' piece ok fed r = λ rest. ok rest ∙ r (piece ++ rest) ∙ ap reading_of (sym (append_assoc fed piece rest))
 
 pub settled_or : (d : Decoder) (piece : List ℕ) (e : DecodeError) → (e ≡ no_memory) ⊎ ((rest : List ℕ) → answer_of d (piece ++ rest) ≡ Err e) → (fed : List ℕ) → Resumes d fed →
@@ -28,19 +29,26 @@ settled_or d piece e (inl memory) fed r = inl memory
 settled_or d piece e (inr stops) fed r = inr (λ rest. ap reading_of (append_assoc fed piece rest) ∙ sym (r (piece ++ rest)) ∙ stops rest)
 
 -- a byte is wanted, or the input may end or go on by a section
-abbrev WantsOrGoesOn : Step → ℕ → ℕ → WModule → Type 0
-WantsOrGoesOn s at last m = IsTruncated (rest_of_step at last m s) at ⊎ (rest_of_step at last m s ≡ sections_left last m)
+abbrev pub WantsOrIsBetween : Step → ℕ → ℕ → WModule → Type 0
+WantsOrIsBetween s at last m = IsTruncated (rest_of_step at last m s) at ⊎ IsBetween s
 
-in_preamble : (k at last : ℕ) (m : WModule) (t : Bool) → nat_lt k 8 ≡ t → WantsOrGoesOn (Preamble k) at last m
+in_preamble : (k at last : ℕ) (m : WModule) (t : Bool) → nat_lt k 8 ≡ t → WantsOrIsBetween (Preamble k) at last m
 in_preamble k at last m true e = inl (preamble_truncated k at last m (ltb-true k 8 e))
-in_preamble k at last m false e = inr (preamble_over k last m (ltb-false k 8 e))
+in_preamble k at last m false e = inr (ltb-false k 8 e)
 
-wants_or_goes_on : (s : Step) (at last : ℕ) (m : WModule) → WantsOrGoesOn s at last m
-wants_or_goes_on (Preamble k) at last m = in_preamble k at last m (nat_lt k 8) refl
-wants_or_goes_on Between at last m = inr refl
-wants_or_goes_on (Size id number) at last m = inl (size_truncated id at last m number)
-wants_or_goes_on (Custom behind) at last m = inl (custom_truncated behind at last m)
-wants_or_goes_on (Content behind content) at last m = inl (content_truncated behind at last m content)
+pub wants_or_is_between : (s : Step) (at last : ℕ) (m : WModule) → WantsOrIsBetween s at last m
+wants_or_is_between (Preamble k) at last m = in_preamble k at last m (nat_lt k 8) refl
+wants_or_is_between Between at last m = inr tt
+wants_or_is_between (Size id number) at last m = inl (size_truncated id at last m number)
+wants_or_is_between (Custom behind) at last m = inl (custom_truncated behind at last m)
+wants_or_is_between (Content behind content) at last m = inl (content_truncated behind at last m content)
+
+goes_on : (s : Step) (at last : ℕ) (m : WModule) → IsBetween s → rest_of_step at last m s ≡ sections_left last m
+goes_on (Preamble k) at last m over = preamble_over k last m over
+goes_on Between at last m is = refl
+goes_on (Size id number) at last m is = absurd is
+goes_on (Custom behind) at last m is = absurd is
+goes_on (Content behind content) at last m is = absurd is
 
 -- the input ends behind the id of a custom section
 id_truncated : (at last : ℕ) (m : WModule) → sections_left last m (record { at = at; end = None; rest = 0 ∷ [] }) ≡ Err (record { at = at + 1; fault = Truncated })
@@ -50,13 +58,13 @@ id_truncated at last m = refl
 abbrev TruncatesBy : Decoder → List ℕ → ℕ → Type 0
 TruncatesBy d rest at = answer_of d rest ≡ Err (record { at = at; fault = Truncated })
 
-some_truncated : (d : Decoder) → d.failed ≡ None → WantsOrGoesOn d.step d.at d.last d.built → (rest : List ℕ) × (at : ℕ) × TruncatesBy d rest at
+some_truncated : (d : Decoder) → d.failed ≡ None → WantsOrIsBetween d.step d.at d.last d.built → (rest : List ℕ) × (at : ℕ) × TruncatesBy d rest at
 some_truncated d is (inl t) = ([], d.at, answer_wanting d is t)
-some_truncated d is (inr e) = (
+some_truncated d is (inr between) = (
   0 ∷ [],
   d.at + 1,
   answer_whole d is (0 ∷ [])
-      ∙ ap (λ (r : Reader WModule). without_rest (r (record { at = d.at; end = None; rest = 0 ∷ [] }))) e
+      ∙ ap (λ (r : Reader WModule). without_rest (r (record { at = d.at; end = None; rest = 0 ∷ [] }))) (goes_on d.step d.at d.last d.built between)
       ∙ ap without_rest (id_truncated d.at d.last d.built),
 )
 
@@ -65,7 +73,7 @@ fault_is r e at p q = let same : e ≡ record { at = at; fault = Truncated } = c
 
 not_settled : (d : Decoder) → d.failed ≡ None → (fed : List ℕ) → Resumes d fed → (e : DecodeError) → IsSettled fed e → ⊥
 not_settled d is fed r e s =
-    let some = some_truncated d is (wants_or_goes_on d.step d.at d.last d.built) in
+    let some = some_truncated d is (wants_or_is_between d.step d.at d.last d.built) in
     let truncated : e.fault ≡ Truncated = fault_is (answer_of d some.0) e some.1 some.2 (r some.0 ∙ s some.0) in
     truncated_is_undecided fed e (ap reading_of (sym (append-nil fed)) ∙ s []) truncated 0 (s (0 ∷ []))
 

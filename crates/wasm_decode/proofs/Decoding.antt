@@ -149,7 +149,7 @@ custom_of Between h = absurd (omega arith)
 custom_of (Size id number) h = absurd (omega arith)
 custom_of (Content behind content) h = absurd (omega arith)
 
-left_by : (behind : ℕ) (t : Bool) → t ≡ (behind == 0) → custom_bytes (if t then Between else Custom (behind - 1)) ≡ behind
+pub left_by : (behind : ℕ) (t : Bool) → t ≡ (behind == 0) → custom_bytes (if t then Between else Custom (behind - 1)) ≡ behind
 left_by behind true e = let none : behind ≡ 0 = eqb-true _ _ (sym e) in omega (arith, none)
 left_by behind false e = let some : behind ≡ 0 → ⊥ = eqb-false _ _ (sym e) in omega (arith, some)
 

@@ -5,3 +5,7 @@ pub mod CodeSteps
 pub mod Decoding
 pub mod WholeInputs
 pub mod Continuations
+pub mod CustomSteps
+pub mod CustomSections
+pub mod LyingInCustom
+pub mod Stopping

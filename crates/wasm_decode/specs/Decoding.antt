@@ -1,11 +1,14 @@
 -- A decoder in the middle, and what it answers where its input goes on by given bytes and then ends; this project's own.
-use Rattle.std.specs.Prelude.{◌≡◌, ℕ, ◌++◌, List, Option, None, Some, Result, Err}
+use Rattle.std.specs.Prelude.{◌≡◌, ℕ, ◌∷◌, ◌++◌, List, length, Option, None, Some, Result, Err}
 use Rattle.wasm_ast.specs.declared.modules.WModule.{WModule}
+use Rattle.wasm_grammar.specs.GrammarValues.{IsUnsigned}
 use Rattle.wasm_reading.specs.declared.fault.DecodeError.{DecodeError}
 use Rattle.wasm_reading.specs.ReadModules.{reading_of, without_rest}
 use Rattle.wasm_reading_laws.specs.ModulesRead.{HasFirstFault}
 use Rattle.wasm_decode.specs.declared.decoder.Decoder.{Decoder}
 use Rattle.wasm_decode.specs.Steps.{rest_of_step, custom_bytes}
+use Rattle.wasm_decode.specs.CustomSections.{EndsBetweenSections, EndsInCustomContent}
+use Rattle.wasm_decode.specs.CustomSteps.{IsInSize}
 
 -- the error that a decoder answered, if there was one
 abbrev pub error_of : Decoder → Option DecodeError
@@ -32,10 +35,19 @@ error_or (Some e) answer = Err e
 unfoldable pub answer_of : Decoder → List ℕ → Result WModule DecodeError
 answer_of d rest = error_or d.failed (without_rest (rest_of_step d.at d.last d.built d.step (record { at = d.at; end = None; rest = rest })))
 
--- a decoder stands behind the input `fed`: it answers what reading gives of that input and what follows
+-- a decoder resumes the input `fed`: it answers what reading gives of that input and what follows
 abbrev pub Resumes : Decoder → List ℕ → Type 0
 Resumes d fed = (rest : List ℕ) → answer_of d rest ≡ reading_of (fed ++ rest)
 
 -- every input that begins with the bytes `fed`, that of no further byte among them, has this first fault
 abbrev pub IsSettled : List ℕ → DecodeError → Type 0
 IsSettled fed e = (rest : List ℕ) → HasFirstFault (fed ++ rest) e
+
+-- A decoder stands behind the input `fed`, of which it answered no error: it resumes it, has counted its bytes, and is in
+-- the size or the content of a custom section where the input ends there.
+pub record StandsBehind (d : Decoder) (fed : List ℕ) : Type 0 where
+  pub resumes : Resumes d fed
+  pub whole : error_of d ≡ None
+  pub place : at_of d ≡ length fed
+  pub in_size : (front begun left : List ℕ) (n : ℕ) → EndsBetweenSections front → fed ≡ front ++ 0x00 ∷ begun → IsUnsigned n (begun ++ left) → IsInSize d.step d.at left n
+  pub in_content : (n : ℕ) → EndsInCustomContent fed n → custom_left_of d ≡ n

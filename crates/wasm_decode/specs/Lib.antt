@@ -1,3 +1,5 @@
 pub mod Contents
 pub mod Steps
+pub mod CustomSections
+pub mod CustomSteps
 pub mod Decoding

@@ -23,13 +23,15 @@ pub struct Decoder {
 }
 
 impl Decoder {
-    ghost use Rattle.wasm_decode.specs.Decoding.{answer_of, at_of, built_of, custom_left_of, error_of, IsSettled, Resumes};
+    ghost use Rattle.wasm_decode.specs.CustomSections.{EndsInCustomContent, LiesInCustomSection};
+    ghost use Rattle.wasm_decode.specs.Decoding.{answer_of, at_of, built_of, custom_left_of, error_of, IsSettled, Resumes, StandsBehind};
 
     /// A decoder of which nothing was fed.
     pub fn new(alloc: Global) -> Decoder
         ensures starts { Resumes result [] }
         ensures whole { error_of result ≡ None }
         ensures counted { at_of result ≡ 0 }
+        ensures stands { StandsBehind result [] }
     {
         Decoder {
             alloc,
@@ -54,8 +56,8 @@ impl Decoder {
     }
 
     /// Takes the next piece of the input. A fault is answered as soon as every input that begins with the bytes so far has
-    /// it, and after an error every later call answers that error. A piece that lies in the content of a custom section
-    /// takes no memory and has no fault. `Memory` comes also where the input has 2^64 bytes or more.
+    /// it, and after an error every later call answers that error. A piece that lies in a custom section takes
+    /// no memory and has no fault. `Memory` comes also where the input has 2^64 bytes or more.
     pub fn feed(&mut self, piece: &[u8]) -> Result<(), DecodeError>
         ensures ok { OnOk result ((rest : List ℕ) → answer_of self.new rest ≡ answer_of self.old (piece.now ++ rest)) }
         ensures err { IfErr result (λ e. (e ≡ no_memory) ⊎ ((rest : List ℕ) → answer_of self.old (piece.now ++ rest) ≡ Err e)) }
@@ -68,6 +70,9 @@ impl Decoder {
         ensures again { (e : DecodeError) → error_of self.old ≡ Some e → result ≡ Err e }
         ensures left { OnOk result (length piece.now ≤ custom_left_of self.old → custom_left_of self.new ≡ custom_left_of self.old - length piece.now) }
         ensures custom { error_of self.old ≡ None → length piece.now ≤ custom_left_of self.old → at_of self.old + length piece.now < 2 ^ 64 → IsOk result }
+        ensures stands { OnOk result ((fed : List ℕ) → StandsBehind self.old fed → StandsBehind self.new (fed ++ piece.now)) }
+        ensures in_content { (fed : List ℕ) (n : ℕ) → StandsBehind self.old fed → EndsInCustomContent fed n → length piece.now ≤ n → length fed + length piece.now < 2 ^ 64 → IsOk result }
+        ensures in_custom { (fed : List ℕ) → StandsBehind self.old fed → LiesInCustomSection fed piece.now → length fed + length piece.now < 2 ^ 64 → IsOk result }
     {
         match self.failed {
             Some(e) => Err(e),
@@ -85,6 +90,8 @@ impl Decoder {
         ensures kept { IfErr result (λ e. error_of self.new ≡ Some e) }
         ensures left { OnOk result (length piece.now ≤ custom_left_of self.old → custom_left_of self.new ≡ custom_left_of self.old - length piece.now) }
         ensures custom { length piece.now ≤ custom_left_of self.old → at_of self.old + length piece.now < 2 ^ 64 → IsOk result }
+        ensures stands { OnOk result ((fed : List ℕ) → StandsBehind self.old fed → StandsBehind self.new (fed ++ piece.now)) }
+        ensures in_custom { (fed : List ℕ) → StandsBehind self.old fed → LiesInCustomSection fed piece.now → length fed + length piece.now < 2 ^ 64 → IsOk result }
     {
         for byte in piece {
             self.push(*byte)?;
@@ -102,6 +109,8 @@ impl Decoder {
         ensures counted { OnOk result (at_of self.new ≡ at_of self.old + 1) }
         ensures custom { 0 < custom_left_of self.old → at_of self.old + 1 < 2 ^ 64 → IsOk result }
         ensures left { OnOk result (0 < custom_left_of self.old → custom_left_of self.new ≡ custom_left_of self.old - 1) }
+        ensures stands { OnOk result ((fed : List ℕ) → StandsBehind self.old fed → StandsBehind self.new (fed ++ byte ∷ [])) }
+        ensures in_custom { (fed : List ℕ) → StandsBehind self.old fed → LiesInCustomSection fed (byte ∷ []) → at_of self.old + 1 < 2 ^ 64 → IsOk result }
     {
         if self.at == u64::MAX {
             return self.fail(DecodeError {

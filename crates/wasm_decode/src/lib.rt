@@ -5,9 +5,11 @@ mod content;
 mod decoded;
 mod decoder;
 mod entries;
+mod laws;
 mod steps;
 mod whole;
 
 pub use decoded::Decoded;
 pub use decoder::Decoder;
+pub use laws::worked_custom_sections;
 pub use whole::decode;

@@ -1,8 +1,10 @@
 // A module in the middle of its bytes, and what a byte makes of it.
-ghost use Rattle.std.specs.Prelude.{◌≡◌, ◌+◌, ◌-◌, ◌<◌, ◌≤◌, ◌^◌, ℕ, Ok, nat_lt, if◌then◌else◌, length, IsTrue, IsFalse};
+ghost use Rattle.std.specs.Prelude.{◌≡◌, ◌+◌, ◌-◌, ◌<◌, ◌≤◌, ◌^◌, ℕ, Ok, nat_lt, if◌then◌else◌, length, IsTrue, IsFalse, IsOkAnd};
 ghost use Rattle.wasm_reading.specs.declared.fault.DecodeFault.TheVariants.{BadMagic, BadVersion};
 ghost use Rattle.wasm_ast.specs.declared.modules.WModule.{WModule};
 ghost use Rattle.wasm_decode.specs.Steps.{rest_of_step, sections_left, sized_left, custom_left, content_left, last_behind, custom_step, Advances, Enters, IsTruncated};
+ghost use Rattle.wasm_items.specs.LebStates.{LebState};
+ghost use Rattle.wasm_decode.specs.CustomSteps.{IsBetween, BeginsCustom, TakesSize};
 ghost use Rattle.wasm_decode.specs.Contents.{rest_of_content};
 
 use crate::content::Content;
@@ -40,7 +42,8 @@ fn fault_at(at: u64, fault: DecodeFault) -> DecodeError
 
 /// A byte of the preamble, or behind it, where the last section had the id `last`.
 pub fn take_preamble(index: usize, last: u8, byte: u8, at: u64) -> Result<Step, DecodeError>
-    ensures { (m : WModule) → Advances (rest_of_step at last m (Step.Preamble index)) byte at last m result }
+    ensures advances { (m : WModule) → Advances (rest_of_step at last m (Step.Preamble index)) byte at last m result }
+    ensures begins { byte ≡ 0 → 8 ≤ index → IsOkAnd result BeginsCustom }
 {
     if index >= PREAMBLE.len() {
         return take_id(last, byte, at);
@@ -67,7 +70,8 @@ fn preamble_fault(index: usize) -> DecodeFault
 
 /// The id of a section behind one with the id `last`.
 pub fn take_id(last: u8, byte: u8, at: u64) -> Result<Step, DecodeError>
-    ensures { (m : WModule) → Advances (rest_of_step at last m Step.Between) byte at last m result }
+    ensures advances { (m : WModule) → Advances (rest_of_step at last m Step.Between) byte at last m result }
+    ensures begins { byte ≡ 0 → IsOkAnd result BeginsCustom }
 {
     if byte == 0 {
         return Ok(Step::Size(0, Leb32::unsigned()));
@@ -110,7 +114,8 @@ fn id_behind(id: u8, last: u8) -> u8
 
 /// What is read behind the size of a section, where there are so many functions.
 fn enter(alloc: Global, id: u8, size: u32, at: u64, functions: usize) -> Result<Step, DecodeError>
-    ensures { (last : ℕ) (m : WModule) → length m.funcs ≡ functions → Enters (sized_left id last m size) at (last_behind id last) m result }
+    ensures enters { (last : ℕ) (m : WModule) → length m.funcs ≡ functions → Enters (sized_left id last m size) at (last_behind id last) m result }
+    ensures custom { id ≡ 0 → result ≡ Ok (custom_step size) }
 {
     if id == 0 {
         return Ok(custom(size));
@@ -160,6 +165,8 @@ pub fn advance(
 ) -> Result<Step, DecodeError>
     requires { at + 1 < 2 ^ 64 }
     ensures advances { Advances (rest_of_step at last.old built.old step) byte at last.new built.new result }
+    ensures begins { byte ≡ 0 → IsBetween step → IsOkAnd result BeginsCustom }
+    ensures sized { (number : LebState) → step ≡ Step.Size 0 number → TakesSize number byte at result }
     ensures custom { (behind : ℕ) → step ≡ Step.Custom behind → result ≡ Ok (custom_step behind) }
 {
     match step {
@@ -182,7 +189,8 @@ fn take_size(
     at: u64,
 ) -> Result<Step, DecodeError>
     requires { at + 1 < 2 ^ 64 }
-    ensures { Advances (rest_of_step at last.old built.now (Step.Size id number)) byte at last.new built.now result }
+    ensures advances { Advances (rest_of_step at last.old built.now (Step.Size id number)) byte at last.new built.now result }
+    ensures sized { id ≡ 0 → TakesSize number byte at result }
 {
     match number.push(byte, at)? {
         Progress::More(number) => Ok(Step::Size(id, number)),
