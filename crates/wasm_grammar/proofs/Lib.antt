@@ -1,3 +1,4 @@
 pub mod InstructionLayers
 pub mod WorkedRows
 pub mod Sections
+pub mod WorkedInstructions

@@ -11,3 +11,4 @@ pub mod GrammarTypes
 pub mod GrammarInstructions
 pub mod GrammarModules
 pub mod WorkedModules
+pub mod WorkedInstructions

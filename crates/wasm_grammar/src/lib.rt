@@ -4,6 +4,7 @@
 ghost use Rattle.std.specs.Prelude.{◌≡◌};
 ghost use Rattle.wasm_grammar.specs.CanonicalModules.{module_bytes};
 ghost use Rattle.wasm_grammar.specs.Layers.{BytesByLayers, NestingByLayers};
+ghost use Rattle.wasm_grammar.specs.WorkedInstructions.{WorkedPlainInstructions, WorkedBlocks};
 ghost use Rattle.wasm_grammar.specs.WorkedModules.{empty_module, empty_module_bytes, six_module, six_module_bytes};
 
 /// A law: the canonical bytes and the nesting of an instruction follow from its opcode, its immediates and
@@ -17,4 +18,10 @@ pub fn instruction_layers()
 pub fn worked_modules()
     ensures empty { module_bytes empty_module ≡ empty_module_bytes }
     ensures six { module_bytes six_module ≡ six_module_bytes }
+{}
+
+/// Instructions of each kind of immediates have the canonical bytes that are written out for them.
+pub fn worked_instructions()
+    ensures plain { WorkedPlainInstructions }
+    ensures blocks { WorkedBlocks }
 {}
