@@ -1,12 +1,11 @@
 -- A decoder behind the bytes of its input: from a byte to the next. Where the input ends between two sections, the id of
 -- one is read next, since every other step answers `Truncated` at the end; so each custom section is entered.
-use Rattle.std.proofs.Common.{◌≡◌, ◌∙◌, ℕ, ◌+◌, ◌-◌, ◌<◌, ◌≤◌, List, [], ◌∷◌, ◌++◌, length, append-nil, append_assoc, refl, ap, sym, subst, arith, ◌⊎◌, inl, inr}
+use Rattle.std.proofs.Common.{◌≡◌, ◌∙◌, ℕ, ◌+◌, List, [], ◌∷◌, ◌++◌, length, append-nil, append_assoc, refl, ap, sym, subst, arith, ◌⊎◌, inl, inr}
 use Rattle.std.proofs.lemmas.List.{length_push, same_from_push}
 use Rattle.std.specs.Prelude.{None, Some, Result, Ok, Err, IfErr, IsOkAnd, ◌==◌}
 use Rattle.wasm_ast.specs.declared.modules.WModule.{WModule}
 use Rattle.wasm_grammar.specs.GrammarValues.{IsUnsigned}
 use Rattle.wasm_reading.specs.declared.fault.DecodeError.{DecodeError}
-use Rattle.wasm_reading.specs.declared.fault.DecodeFault.{DecodeFault}
 use Rattle.wasm_reading.specs.declared.fault.DecodeFault.TheVariants.{Truncated, CountMismatch}
 use Rattle.wasm_reading.specs.ReadModules.{reading_of}
 use Rattle.wasm_items.specs.LebStates.{LebState}
@@ -116,9 +115,9 @@ module _ (d : Decoder) (b : ℕ) (next : Step) (fed : List ℕ) (on : StepsOn d.
       entered n (size_behind ends.front ends.size [] n ends.between sized spelled)
   content_behind n ends (inr found) =
       let split : ends.front ++ 0x00 ∷ (ends.size ++ ends.content) ≡ (ends.front ++ 0x00 ∷ (ends.size ++ found.0)) ++ found.1 ∷ [] =
-          ap (λ (xs : List ℕ). ends.front ++ 0x00 ∷ (ends.size ++ xs)) found.2
-          ∙ ap (λ (xs : List ℕ). ends.front ++ 0x00 ∷ xs) (sym (append_assoc ends.size found.0 (found.1 ∷ [])))
-          ∙ sym (append_assoc ends.front (0x00 ∷ (ends.size ++ found.0)) (found.1 ∷ [])) in
+      ap (λ (xs : List ℕ). ends.front ++ 0x00 ∷ (ends.size ++ xs)) found.2
+      ∙ ap (λ (xs : List ℕ). ends.front ++ 0x00 ∷ xs) (sym (append_assoc ends.size found.0 (found.1 ∷ [])))
+      ∙ sym (append_assoc ends.front (0x00 ∷ (ends.size ++ found.0)) (found.1 ∷ [])) in
       let both = same_from_push fed (ends.front ++ 0x00 ∷ (ends.size ++ found.0)) b found.1 (ends.whole ∙ split) in
       let long : length ends.content ≡ length found.0 + 1 = ap length found.2 ∙ length_push found.0 found.1 in
       let counted : length ends.content + n ≡ length found.0 + (n + 1) = omega (arith, long) in

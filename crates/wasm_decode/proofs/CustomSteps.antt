@@ -1,6 +1,6 @@
 -- Steps through the id and the size of a custom section: a byte of its size leaves the bytes behind it, and the last one
 -- leaves the content. By the residual of the number.
-use Rattle.std.proofs.Common.{◌≡◌, ◌∙◌, ℕ, ◌+◌, List, [], ◌∷◌, ◌++◌, length, append-nil, refl, ap, sym, subst, arith, ◌⊎◌, inl, inr}
+use Rattle.std.proofs.Common.{◌≡◌, ◌∙◌, ℕ, ◌+◌, List, [], ◌∷◌, ◌++◌, length, append-nil, refl, ap, sym, subst, arith, inl, inr}
 use Rattle.std.specs.Prelude.{None, Result, Ok, Err}
 use Rattle.wasm_grammar.specs.GrammarValues.{IsUnsigned}
 use Rattle.wasm_reading.specs.declared.fault.DecodeError.{DecodeError}
@@ -11,7 +11,7 @@ use Rattle.wasm_items.specs.LebStates.{LebState, rest_of_leb}
 use Rattle.wasm_items.specs.Residuals.{Takes, stop}
 use Rattle.wasm_items.specs.WantsBytes.{wants_leb}
 use Rattle.wasm_decode.specs.declared.steps.Step.{Step}
-use Rattle.wasm_decode.specs.declared.steps.Step.TheVariants.{Preamble, Between, Size, Custom, Content}
+use Rattle.wasm_decode.specs.declared.steps.Step.TheVariants.{Size}
 use Rattle.wasm_decode.specs.Steps.{custom_step}
 use Rattle.wasm_decode.specs.CustomSteps.{BeginsCustom, Reads, IsInSize, TakesSize}
 

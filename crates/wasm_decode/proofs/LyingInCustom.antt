@@ -1,8 +1,8 @@
 -- A byte that lies in a custom section is taken: it is its id, a byte of its size, or a byte of its content.
 use Rattle.std.proofs.Common.{◌≡◌, ◌∙◌, ℕ, ◌+◌, ◌<◌, List, [], ◌∷◌, ◌++◌, length, take, drop, get_or, append-nil, append_assoc, length-append, take-append-drop, refl, ap, sym, subst, arith, ◌⊎◌, inl, inr}
 use Rattle.std.proofs.lemmas.List.{drop_more}
-use Rattle.std.specs.Prelude.{Err, None}
-use Rattle.wasm_grammar.specs.GrammarValues.{IsUnsigned, IsSized, IsRaw}
+use Rattle.std.specs.Prelude.{Err}
+use Rattle.wasm_grammar.specs.GrammarValues.{IsUnsigned}
 use Rattle.wasm_grammar.specs.GrammarModules.{IsCustomSection}
 use Rattle.wasm_reading.specs.declared.fault.DecodeError.{DecodeError}
 use Rattle.wasm_decode.specs.declared.decoder.Decoder.{Decoder}
@@ -78,7 +78,7 @@ pub no_error_in_custom : (d : Decoder) (b : ℕ) (e : DecodeError) (fed : List �
 no_error_in_custom d b e fed on s lies =
     let sized = lies.spelled.second in
     let section : lies.begun ++ b ∷ lies.left ≡ 0x00 ∷ (sized.size ++ sized.content) =
-        lies.spelled.whole ∙ ap (λ (xs : List ℕ). xs ++ lies.spelled.back) lies.spelled.first ∙ ap (λ (xs : List ℕ). 0x00 ∷ xs) sized.whole in
+    lies.spelled.whole ∙ ap (λ (xs : List ℕ). xs ++ lies.spelled.back) lies.spelled.first ∙ ap (λ (xs : List ℕ). 0x00 ∷ xs) sized.whole in
     in_custom d b e fed lies.front on s lies.between lies.begun lies.left sized.size sized.content lies.whole section sized.measured
 
 -- each byte of a piece that lies in a custom section lies in it
@@ -86,9 +86,9 @@ pub lies_at : (fed piece : List ℕ) (i x : ℕ) → i < length piece → LiesIn
 lies_at fed piece i x less lies =
     let split : piece ≡ take i piece ++ get_or piece i x ∷ drop (i + 1) piece = sym (take-append-drop i piece) ∙ ap (λ (xs : List ℕ). take i piece ++ xs) (drop_more piece i x less) in
     let joined : lies.begun ++ (piece ++ lies.left) ≡ (lies.begun ++ take i piece) ++ get_or piece i x ∷ (drop (i + 1) piece ++ lies.left) =
-        ap (λ (xs : List ℕ). lies.begun ++ (xs ++ lies.left)) split
-        ∙ ap (λ (xs : List ℕ). lies.begun ++ xs) (append_assoc (take i piece) (get_or piece i x ∷ drop (i + 1) piece) lies.left)
-        ∙ sym (append_assoc lies.begun (take i piece) (get_or piece i x ∷ (drop (i + 1) piece ++ lies.left))) in
+    ap (λ (xs : List ℕ). lies.begun ++ (xs ++ lies.left)) split
+    ∙ ap (λ (xs : List ℕ). lies.begun ++ xs) (append_assoc (take i piece) (get_or piece i x ∷ drop (i + 1) piece) lies.left)
+    ∙ sym (append_assoc lies.begun (take i piece) (get_or piece i x ∷ (drop (i + 1) piece ++ lies.left))) in
     record {
       front = lies.front;
       begun = lies.begun ++ take i piece;

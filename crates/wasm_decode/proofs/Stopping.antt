@@ -15,7 +15,7 @@ stops_at d d' piece i x e (Ok y) is less resumes stops = absurd is
 stops_at d d' piece i x e (Err given) is less resumes (inl memory) = inl (is ∙ memory)
 stops_at d d' piece i x e (Err given) is less resumes (inr stops) =
     inr (λ rest.
-        sym (resumes rest)
-        ∙ ap (λ (xs : List ℕ). answer_of d' (xs ++ rest)) (drop_more piece i x less)
-        ∙ stops (drop (i + 1) piece ++ rest)
-        ∙ ap (λ (f : DecodeError). let r : Result WModule DecodeError = Err f in r) (sym is))
+    sym (resumes rest)
+    ∙ ap (λ (xs : List ℕ). answer_of d' (xs ++ rest)) (drop_more piece i x less)
+    ∙ stops (drop (i + 1) piece ++ rest)
+    ∙ ap (λ (f : DecodeError). let r : Result WModule DecodeError = Err f in r) (sym is))

@@ -1,4 +1,4 @@
-use Rattle.std.proofs.Common.{inr, arith}
+use Rattle.std.proofs.Common.{inr}
 use Rattle.std.proofs.lemmas.Bool.{ne_eqb, eq-eqb}
 use Rattle.wasm_decode.proofs.Advancing.{preamble_goes_on, preamble_breaks, preamble_over}
 use Rattle.wasm_decode.proofs.steps.take_preamble.Goals as goal

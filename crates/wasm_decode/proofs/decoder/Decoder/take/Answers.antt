@@ -1,4 +1,4 @@
-use Rattle.std.proofs.Common.{◌≡◌, ◌++◌, take, true, false, arith}
+use Rattle.std.proofs.Common.{◌++◌, take, arith}
 use Rattle.std.proofs.lemmas.Bool.{false≢true}
 use Rattle.wasm_decode.proofs.LyingInCustom.{lies_at}
 use Rattle.wasm_decode.proofs.Stopping.{stops_at}
