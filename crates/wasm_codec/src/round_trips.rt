@@ -32,11 +32,12 @@ pub fn round_trip(alloc: Global, m: &WModule) -> Result<Decoded, CodecError>
 }
 
 /// The canonical bytes of the module that these bytes spell, which spell it too (this project's own).
-/// `Decode` is the bytes' first fault, or want of memory; `Encode(TooLong(id))` comes exactly where `encode` answers it
-/// of that module.
+/// `Decode` is the bytes' first fault, or want of memory. `Encode(TooLong(id))` never comes, since a module that bytes
+/// spell has contents of fewer than 2^32 bytes; so `Encode` is want of memory.
 pub fn canonical_form(alloc: Global, bytes: &[u8]) -> Result<Vec<u8>, CodecError>
     ensures form { IfOk result (λ form. IsCanonicalForm bytes.now form.items) }
     ensures long { (id : ℕ) → IsErrOf result (CodecError.Encode (TooLong id)) → HasTooLong bytes.now id }
+    ensures never_long { (id : ℕ) → IsErrOf result (CodecError.Encode (TooLong id)) → ⊥ }
     ensures fault { (e : DecodeError) → IsErrOf result (CodecError.Decode e) → (e ≡ no_memory) ⊎ HasFirstFault bytes.now e }
 {
     let decoded = decode(alloc, bytes)?;

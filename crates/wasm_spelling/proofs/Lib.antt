@@ -8,6 +8,10 @@ pub mod InstructionsAgree
 pub mod EntriesAgree
 pub mod SectionsAgree
 pub mod ModulesAgree
+pub mod LeastOrLonger
+pub mod Shortest
+pub mod ShortestInstructions
+pub mod ShortestModules
 pub mod KnownInstructions
 pub mod PaddedRows
 pub mod FullRows

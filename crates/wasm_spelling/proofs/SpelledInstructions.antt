@@ -28,7 +28,7 @@ immediate (Body t xs) h = absurd h
 immediate (Bodies t xs ys) h = absurd h
 
 -- the bytes of an instruction from what its immediates are
-layer : (w : WInstr) (i : Immediate WInstr) → immediate_of w ≡ i → instruction_bytes w ≡ opcode_of w ∷ immediate_bytes instruction_bytes i
+pub layer : (w : WInstr) (i : Immediate WInstr) → immediate_of w ≡ i → instruction_bytes w ≡ opcode_of w ∷ immediate_bytes instruction_bytes i
 layer w i e = instruction_bytes-layer w ∙ ap (λ (j : Immediate WInstr). opcode_of w ∷ immediate_bytes instruction_bytes j) e
 
 mutual

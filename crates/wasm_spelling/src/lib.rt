@@ -1,4 +1,5 @@
-//! Laws of the binary format: the canonical bytes of a module spell it, and bytes spell one module at most.
+//! Laws of the binary format: the canonical bytes of a module spell it and are its shortest spelling, and bytes spell
+//! one module at most.
 #![tactic(auto)]
 
 ghost use Rattle.std.specs.Prelude.{◌≡◌};
@@ -7,7 +8,7 @@ ghost use Rattle.wasm_grammar.specs.GrammarModules.{SpellsModule};
 ghost use Rattle.wasm_grammar.specs.WorkedModules.{six_module, six_module_bytes};
 ghost use Rattle.wasm_spelling.specs.FullModule.{full_module, full_module_bytes};
 ghost use Rattle.wasm_spelling.specs.PaddedModule.{padded_module_bytes};
-ghost use Rattle.wasm_spelling.specs.SpellingLaws.{BytesSpellOneModule, CanonicalBytesSpell, CanonicalBytesSpellOnly, InstructionsHaveOneForm};
+ghost use Rattle.wasm_spelling.specs.SpellingLaws.{BytesSpellOneModule, CanonicalBytesAreShortest, CanonicalBytesSpell, CanonicalBytesSpellAgain, CanonicalBytesSpellOnly, InstructionsHaveOneForm, SpelledContentsAreShort};
 
 /// A law: the canonical bytes of a module of the profile, where each section's content has fewer than
 /// 2^32 bytes, spell that module and no other.
@@ -24,6 +25,14 @@ pub fn instructions_have_one_form()
 /// A law: bytes spell one module at most, in whatever way they are taken apart.
 pub fn bytes_spell_one_module()
     ensures { BytesSpellOneModule }
+{}
+
+/// A law: the canonical bytes of a module are its shortest spelling, and any other spelling has more bytes. A module
+/// that bytes spell has contents of fewer than 2^32 bytes, so that its canonical bytes spell it too.
+pub fn canonical_bytes_are_shortest()
+    ensures shortest { CanonicalBytesAreShortest }
+    ensures short { SpelledContentsAreShort }
+    ensures spell { CanonicalBytesSpellAgain }
 {}
 
 /// A module that is written out with its canonical bytes, and with longer numbers and two custom sections:
