@@ -3,7 +3,6 @@ use Rattle.std.specs.Prelude.{◌≡◌, ℕ, List}
 use Rattle.wasm_ast.specs.declared.modules.WModule.{WModule}
 use Rattle.wasm_grammar.specs.CanonicalModules.{HasShortContents, module_bytes}
 use Rattle.wasm_grammar.specs.GrammarModules.{SpellsModule}
-use Rattle.wasm_encode.specs.Contents.{IsFirstTooLong}
 
 -- the bytes spell a module whose sections have contents of fewer than 2^32 bytes; its canonical bytes are these, and
 -- they spell it too
@@ -13,9 +12,3 @@ pub record IsCanonicalForm (bytes form : List ℕ) : Type 0 where
   pub fits : HasShortContents of
   pub canonical : form ≡ module_bytes of
   pub again : SpellsModule form of
-
--- the bytes spell a module, and this section is its first whose content has 2^32 bytes or more
-pub record HasTooLong (bytes : List ℕ) (id : ℕ) : Type 0 where
-  pub of : WModule
-  pub spelled : SpellsModule bytes of
-  pub long : IsFirstTooLong of id

@@ -9,7 +9,7 @@ ghost use Rattle.wasm_reading_laws.specs.ModulesRead.{HasFirstFault};
 ghost use Rattle.wasm_items.specs.Residuals.{no_memory};
 ghost use Rattle.wasm_encode.specs.declared.error.EncodeError.TheVariants.{TooLong};
 ghost use Rattle.wasm_encode.specs.Contents.{IsFirstTooLong};
-ghost use Rattle.wasm_codec.specs.RoundTrips.{IsCanonicalForm, HasTooLong};
+ghost use Rattle.wasm_codec.specs.RoundTrips.{IsCanonicalForm};
 
 use crate::error::CodecError;
 use std::alloc::Global;
@@ -36,8 +36,7 @@ pub fn round_trip(alloc: Global, m: &WModule) -> Result<Decoded, CodecError>
 /// spell has contents of fewer than 2^32 bytes; so `Encode` is want of memory.
 pub fn canonical_form(alloc: Global, bytes: &[u8]) -> Result<Vec<u8>, CodecError>
     ensures form { IfOk result (λ form. IsCanonicalForm bytes.now form.items) }
-    ensures long { (id : ℕ) → IsErrOf result (CodecError.Encode (TooLong id)) → HasTooLong bytes.now id }
-    ensures never_long { (id : ℕ) → IsErrOf result (CodecError.Encode (TooLong id)) → ⊥ }
+    ensures fits { (id : ℕ) → IsErrOf result (CodecError.Encode (TooLong id)) → ⊥ }
     ensures fault { (e : DecodeError) → IsErrOf result (CodecError.Decode e) → (e ≡ no_memory) ⊎ HasFirstFault bytes.now e }
 {
     let decoded = decode(alloc, bytes)?;

@@ -5,17 +5,8 @@ use Rattle.wasm_encode.specs.declared.error.EncodeError.TheVariants.{TooLong}
 use Rattle.wasm_codec.proofs.RoundTrips.{spelled, never_too_long, encode_cause}
 use Rattle.wasm_codec.proofs.round_trips.canonical_form.Goals as goal
 
-pub returns-in_err-encode-clause-long : goal.returns-in_err-encode-clause-long
-returns-in_err-encode-clause-long c = λ id k.
-    let cause = encode_cause c.from_residual-in_err-encode.result c.in_err-encode.field-0.0 (TooLong id) c.from_residual-in_err-encode.ensures.1 k in
-    record {
-      of = c.module.result.now;
-      spelled = subst (λ (m : WModule). SpellsModule c.args.bytes.now m) (sym c.module.ensures) c.in_ok-decoded.ensures.spelled;
-      long = c.in_err-encode.ensures.long id (ap Err cause);
-    }
-
-pub returns-in_err-encode-clause-never_long : goal.returns-in_err-encode-clause-never_long
-returns-in_err-encode-clause-never_long c = λ id k.
+pub returns-in_err-encode-clause-fits : goal.returns-in_err-encode-clause-fits
+returns-in_err-encode-clause-fits c = λ id k.
     let cause = encode_cause c.from_residual-in_err-encode.result c.in_err-encode.field-0.0 (TooLong id) c.from_residual-in_err-encode.ensures.1 k in
     let p = subst (λ (m : WModule). SpellsModule c.args.bytes.now m) (sym c.module.ensures) c.in_ok-decoded.ensures.spelled in
     never_too_long c.module.result.now c.args.bytes.now id p (c.in_err-encode.ensures.long id (ap Err cause))
