@@ -13,15 +13,15 @@ use Rattle.wasm_reading.specs.ReadModules.{without_rest, reading_of}
 use Rattle.wasm_items.specs.LebStates.{LebState, rest_of_leb}
 use Rattle.wasm_items.specs.Residuals.{WantsAByte, stop, no_memory}
 use Rattle.wasm_items.specs.WantsBytes.{wants_then, wants_here, wants_byte, wants_leb}
-use Rattle.wasm_decode.specs.declared.content.Content as content
-use Rattle.wasm_decode.specs.Contents.{rest_of_content}
+use Rattle.wasm_contents.specs.declared.content.Content as content
+use Rattle.wasm_contents.specs.Contents.{rest_of_content}
 use Rattle.wasm_decode.specs.declared.decoder.Decoder.{Decoder}
 use Rattle.wasm_decode.specs.declared.steps.Step.{Step}
 use Rattle.wasm_decode.specs.declared.steps.Step.TheVariants.{Preamble, Between, Size, Custom, Content}
 use Rattle.wasm_decode.specs.Decoding.{answer_of, error_or}
 use Rattle.wasm_decode.specs.Steps.{custom_bytes, custom_step, TakesAtTop, IsTruncated, rest_of_step, sections_left, content_left, custom_left, sized_left}
 use Rattle.wasm_decode.proofs.Advancing.{behind_preamble, preamble_bytes}
-use Rattle.wasm_decode.proofs.ContentsWantBytes.{wants_content}
+use Rattle.wasm_contents.proofs.ContentsWantBytes.{wants_content}
 
 -- a byte is taken
 pub answer_taken : {old new : Reader WModule} {b at : ℕ} → TakesAtTop old b at new → (rest : List ℕ) →

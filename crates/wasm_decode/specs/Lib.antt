@@ -1,4 +1,3 @@
-pub mod Contents
 pub mod Steps
 pub mod CustomSections
 pub mod CustomSteps

@@ -10,7 +10,7 @@ use Rattle.wasm_items.specs.LebStates.{rest_of_leb}
 use Rattle.wasm_items.specs.Residuals.{stop, no_memory}
 use Rattle.wasm_decode.specs.declared.steps.Step.{Step}
 use Rattle.wasm_decode.specs.declared.steps.Step.TheVariants as steps
-use Rattle.wasm_decode.specs.Contents.{rest_of_content}
+use Rattle.wasm_contents.specs.Contents.{rest_of_content}
 
 -- sections and the end of the input, behind those that stand in `m`, of which the last has the id `last`
 abbrev pub sections_left : ℕ → WModule → Reader WModule

@@ -1,10 +1,8 @@
 //! The decoder of WebAssembly modules: bytes in pieces of any length, and the module that they spell or their first fault.
 #![tactic(auto)]
 
-mod content;
 mod decoded;
 mod decoder;
-mod entries;
 mod laws;
 mod steps;
 mod whole;

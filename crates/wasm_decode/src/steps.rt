@@ -5,11 +5,11 @@ ghost use Rattle.wasm_ast.specs.declared.modules.WModule.{WModule};
 ghost use Rattle.wasm_decode.specs.Steps.{rest_of_step, sections_left, sized_left, custom_left, content_left, last_behind, custom_step, Advances, Enters, IsTruncated};
 ghost use Rattle.wasm_items.specs.LebStates.{LebState};
 ghost use Rattle.wasm_decode.specs.CustomSteps.{IsBetween, BeginsCustom, TakesSize};
-ghost use Rattle.wasm_decode.specs.Contents.{rest_of_content};
+ghost use Rattle.wasm_contents.specs.Contents.{rest_of_content};
 
-use crate::content::Content;
 use std::alloc::Global;
 use wasm_ast::WModule;
+use wasm_contents::Content;
 use wasm_items::{Leb32, Progress};
 use wasm_reading::{DecodeError, DecodeFault};
 

@@ -1,6 +1,6 @@
 use Rattle.std.proofs.Common.{inr}
 use Rattle.wasm_decode.proofs.InContents.{too_short}
-use Rattle.wasm_decode.proofs.ContentsWantBytes.{wants_content}
+use Rattle.wasm_contents.proofs.ContentsWantBytes.{wants_content}
 use Rattle.wasm_decode.proofs.steps.take_content.Goals as goal
 
 pub returns-then-behind-eq0 : goal.returns-then-behind-eq0

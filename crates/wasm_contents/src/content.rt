@@ -3,7 +3,7 @@ ghost use Rattle.std.specs.Prelude.{◌≡◌, ◌+◌, ◌<◌, ◌≤◌, ◌^
 ghost use Rattle.wasm_ast.specs.declared.modules.WModule.{WModule};
 ghost use Rattle.wasm_reading.specs.ReadModules.{content_at};
 ghost use Rattle.wasm_codes.specs.Places.{AlikeAt};
-ghost use Rattle.wasm_decode.specs.Contents.{rest_of_content, rest_of_start, rest_of_count, rest_of_codes, more_codes, rest_behind_codes, PushesInto, PushesBefore};
+ghost use Rattle.wasm_contents.specs.Contents.{rest_of_content, rest_of_start, rest_of_count, rest_of_codes, more_codes, rest_behind_codes, PushesInto, PushesBefore};
 
 use crate::entries::{
     push_elements, push_exports, push_funcs, push_globals, push_imports, push_memories,
@@ -19,7 +19,6 @@ use wasm_items::{Item, Leb32, MemoryState, Progress, TableState, VectorState, ap
 use wasm_reading::{DecodeError, DecodeFault};
 
 /// The content of a section in the middle.
-#[derive(Drop)]
 pub enum Content {
     Types(VectorState<FuncTypeState>),
     Imports(VectorState<ImportState>),
@@ -45,6 +44,37 @@ pub enum Content {
         code: CodeState,
         behind: u32,
     },
+}
+
+/// Written out, so that a function that drops a content calls this one, and does not repeat the destructors of all
+/// states.
+impl Drop for Content {
+    fn drop(self) {
+        match self {
+            Content::Types(_) => (),
+            Content::Imports(_) => (),
+            Content::Funcs(_) => (),
+            Content::Tables(_) => (),
+            Content::Memories(_) => (),
+            Content::Globals(_) => (),
+            Content::Exports(_) => (),
+            Content::Elements(_) => (),
+            Content::Segments(_) => (),
+            Content::Start(_) => (),
+            Content::Count {
+                alloc: _,
+                functions: _,
+                place: _,
+                number: _,
+            } => (),
+            Content::Codes {
+                alloc: _,
+                before: _,
+                code: _,
+                behind: _,
+            } => (),
+        }
+    }
 }
 
 impl Content {

@@ -1,6 +1,6 @@
 // The contents of sections that are vectors of entries: a byte of each; the last one puts the entries into the module.
 ghost use Rattle.std.specs.Prelude.{◌+◌, ◌<◌, ◌^◌};
-ghost use Rattle.wasm_decode.specs.Contents.{rest_of_types, rest_of_imports, rest_of_funcs, rest_of_tables, rest_of_memories, rest_of_globals, rest_of_exports, rest_of_elements, rest_of_segments, PushesInto};
+ghost use Rattle.wasm_contents.specs.Contents.{rest_of_types, rest_of_imports, rest_of_funcs, rest_of_tables, rest_of_memories, rest_of_globals, rest_of_exports, rest_of_elements, rest_of_segments, PushesInto};
 
 use crate::content::Content;
 use wasm_ast::WModule;

@@ -37,8 +37,8 @@ use Rattle.wasm_entries.specs.SegmentStates.{rest_of_segment}
 use Rattle.wasm_codes.specs.declared.code.CodeState.{CodeState}
 use Rattle.wasm_codes.specs.CodeStates.{rest_of_code}
 use Rattle.wasm_codes.specs.Places.{TakesBefore, StopsBefore}
-use Rattle.wasm_decode.specs.declared.content.Content.{Content}
-use Rattle.wasm_decode.specs.declared.content.Content.TheVariants.{Types, Imports, Funcs, Tables, Memories, Globals, Exports, Elements, Segments, Start, Count, Codes}
+use Rattle.wasm_contents.specs.declared.content.Content.{Content}
+use Rattle.wasm_contents.specs.declared.content.Content.TheVariants.{Types, Imports, Funcs, Tables, Memories, Globals, Exports, Elements, Segments, Start, Count, Codes}
 
 -- function types in the middle, and the module with them
 abbrev pub rest_of_types : WModule → VectorState FuncTypeState FuncType → Reader WModule

@@ -16,8 +16,8 @@ use Rattle.wasm_items.proofs.VectorSteps.{next_entry}
 use Rattle.wasm_codes.specs.declared.code.CodeState.{CodeState}
 use Rattle.wasm_codes.specs.CodeStates.{rest_of_code}
 use Rattle.wasm_codes.specs.Places.{TakesBefore}
-use Rattle.wasm_decode.specs.declared.content.Content.{Content}
-use Rattle.wasm_decode.specs.Contents.{more_codes, counted_codes, rest_of_codes, rest_of_count, rest_behind_codes, PushesInto, PushesBefore}
+use Rattle.wasm_contents.specs.declared.content.Content.{Content}
+use Rattle.wasm_contents.specs.Contents.{more_codes, counted_codes, rest_of_codes, rest_of_count, rest_behind_codes, PushesInto, PushesBefore}
 
 abbrev put : WModule → List Code → Reader WModule
 put m xs = give (record m { codes = xs })

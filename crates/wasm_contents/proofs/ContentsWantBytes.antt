@@ -17,9 +17,9 @@ use Rattle.wasm_entries.specs.ExportStates.{rest_of_export, wants_export}
 use Rattle.wasm_entries.specs.ElementStates.{rest_of_element, wants_element}
 use Rattle.wasm_entries.specs.SegmentStates.{rest_of_segment, wants_segment}
 use Rattle.wasm_codes.proofs.WantsBytes.{wants_code}
-use Rattle.wasm_decode.specs.declared.content.Content.{Content}
-use Rattle.wasm_decode.specs.declared.content.Content.TheVariants.{Types, Imports, Funcs, Tables, Memories, Globals, Exports, Elements, Segments, Start, Count, Codes}
-use Rattle.wasm_decode.specs.Contents.{rest_of_content, counted_codes, more_codes}
+use Rattle.wasm_contents.specs.declared.content.Content.{Content}
+use Rattle.wasm_contents.specs.declared.content.Content.TheVariants.{Types, Imports, Funcs, Tables, Memories, Globals, Exports, Elements, Segments, Start, Count, Codes}
+use Rattle.wasm_contents.specs.Contents.{rest_of_content, counted_codes, more_codes}
 
 pub wants_content : (m : WModule) (state : Content) → WantsAByte (rest_of_content m state)
 wants_content m (Types state) = wants_then (λ xs. give (record m { types = xs })) (wants_vector func_type_at rest_of_func_type wants_func_type state)
