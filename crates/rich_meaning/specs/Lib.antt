@@ -3,3 +3,4 @@ pub mod Table
 pub mod Derivations
 pub mod Violations
 pub mod Laws
+pub mod Rows

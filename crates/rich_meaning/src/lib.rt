@@ -5,6 +5,6 @@ mod laws;
 mod notes;
 mod rules;
 
-pub use laws::{lone_violations, typed_or_refused};
+pub use laws::{lone_violations, typed_or_refused, worked_rules};
 pub use notes::{Note, Place};
 pub use rules::Rule;

@@ -4,4 +4,5 @@ pub mod ReadTypes
 pub mod ReadInstructions
 pub mod ReadModules
 pub mod WorkedReadings
+pub mod WorkedLimits
 pub mod Laws

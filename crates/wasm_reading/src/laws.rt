@@ -1,4 +1,5 @@
 ghost use Rattle.wasm_reading.specs.Laws.{InstructionsNeedNoMore, SectionsNeedNoMore};
+ghost use Rattle.wasm_reading.specs.WorkedLimits.{WorkedLimits, WorkedNesting, WorkedPreambles};
 ghost use Rattle.wasm_reading.specs.WorkedReadings.{TwoByteCount, LastByteTooGreat, IdDoesNotRise, FloatInABody, TooManyPages, CustomSectionTooLong, ContentStopsEarly};
 
 /// Byte lists that are written out: a module, and six first faults with their places.
@@ -10,6 +11,13 @@ pub fn worked_readings()
     ensures too_many_pages { TooManyPages }
     ensures custom_section_too_long { CustomSectionTooLong }
     ensures content_stops_early { ContentStopsEarly }
+{}
+
+/// Byte lists at the limits of the profile and one past them, and preambles that are not whole.
+pub fn worked_limits()
+    ensures limits { WorkedLimits }
+    ensures nesting { WorkedNesting }
+    ensures preambles { WorkedPreambles }
 {}
 
 /// A law: the numbers that bound how many instructions and sections are read bound nothing that bytes can hold.
