@@ -1,5 +1,5 @@
 -- The linked program of one file without imports. This project's own.
-use Rattle.std.specs.Prelude.{◌≡◌, ℕ, ◌+◌, List, [], ◌∷◌, Option, Some, None, length, drop, codes, find}
+use Rattle.std.specs.Prelude.{◌≡◌, ℕ, List, [], ◌∷◌, ◌++◌, Option, Some, None, length, drop, map, replicate, codes, find}
 use Rattle.std.specs.Option.{option_map}
 use Rattle.std.specs.Str.{bytes_eq}
 use Rattle.rw_types.specs.declared.modules.ExportDef.{ExportDef}
@@ -38,11 +38,22 @@ program_of file = program_with
     (linked_globals 0 file.source.globals (drop (length file.source.funcs) file.notes))
     (exported (codes "main") file.source.exports)
 
--- a checked module has notes for each function and each global, and none of them is dropped in a link
-pub record LinksEach (file : TypedModule) : Type 0 where
-  pub notes : length file.notes ≡ length file.source.funcs + length file.source.globals
-  pub funcs : length (linked_funcs 0 file.source.funcs file.notes) ≡ length file.source.funcs
-  pub globals : length (linked_globals 0 file.source.globals (drop (length file.source.funcs) file.notes)) ≡ length file.source.globals
+-- the function that a linked one was in its file
+abbrev pub func_of : LinkedFunc → FuncDef
+func_of f = record { ty = f.ty; locals = f.locals; body = f.body }
 
+-- the global that a linked one was in its file
+abbrev pub global_of : LinkedGlobal → GlobalDef
+global_of g = record { mutable = g.mutable; ty = g.ty; body = g.body }
+
+-- these are the functions and the globals of the file, in their order, with all its notes, and the file is the first one
+pub record LinksEach (file : TypedModule) (funcs : List LinkedFunc) (globals : List LinkedGlobal) : Type 0 where
+  pub functions : map func_of funcs ≡ file.source.funcs
+  pub values : map global_of globals ≡ file.source.globals
+  pub notes : map (λ (f : LinkedFunc). f.notes) funcs ++ map (λ (g : LinkedGlobal). g.notes) globals ≡ file.notes
+  pub files : map (λ (f : LinkedFunc). f.file) funcs ++ map (λ (g : LinkedGlobal). g.file) globals ≡ replicate (length file.notes) 0
+
+-- what is linked of a checked module is each of its functions and globals, as it is, with its notes
 abbrev pub NoneDropped : Type 0
-NoneDropped = (file : TypedModule) → IsTyped file.source file.notes → LinksEach file
+NoneDropped = (file : TypedModule) → IsTyped file.source file.notes →
+    LinksEach file (linked_funcs 0 file.source.funcs file.notes) (linked_globals 0 file.source.globals (drop (length file.source.funcs) file.notes))
