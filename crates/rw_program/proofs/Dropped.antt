@@ -32,7 +32,7 @@ pub none_dropped : NoneDropped
 none_dropped file typed =
     let none : file.source.globals ≡ [] = ap (λ (m : Module). m.globals) typed.lone.is in
     let no_globals : linked_globals 0 file.source.globals (drop (length file.source.funcs) file.notes) ≡ [] =
-        ap (λ (gs : List GlobalDef). linked_globals 0 gs (drop (length file.source.funcs) file.notes)) none in
+    ap (λ (gs : List GlobalDef). linked_globals 0 gs (drop (length file.source.funcs) file.notes)) none in
     subst (λ (globals : List LinkedGlobal). LinksEach file (linked_funcs 0 file.source.funcs file.notes) globals) (sym no_globals) (record {
       functions = as_they_are file.source.funcs file.notes typed.bodies;
       values = sym none;

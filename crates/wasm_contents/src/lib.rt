@@ -3,5 +3,7 @@
 
 mod content;
 mod entries;
+mod laws;
 
 pub use content::Content;
+pub use laws::each_content_wants_a_byte;
