@@ -17,7 +17,7 @@ use Rattle.wasm_codes.specs.declared.code.CodeState.{CodeState}
 use Rattle.wasm_codes.specs.CodeStates.{rest_of_code}
 use Rattle.wasm_codes.specs.Places.{TakesBefore}
 use Rattle.wasm_contents.specs.declared.content.Content.{Content}
-use Rattle.wasm_contents.specs.Contents.{more_codes, counted_codes, rest_of_codes, rest_of_count, rest_behind_codes, PushesInto, PushesBefore}
+use Rattle.wasm_contents.specs.Contents.{more_codes, counted_codes, rest_of_content, rest_of_codes, rest_of_count, rest_behind_codes, PushesInto, PushesBefore}
 
 abbrev put : WModule → List Code → Reader WModule
 put m xs = give (record m { codes = xs })
@@ -35,7 +35,7 @@ counted : (m : WModule) (functions place n : ℕ) → n ≡ functions → counte
 counted m functions place n e =
     ap (λ (r : Reader (List Code)). r >>= put m) (choose (n == functions) (each_at code_at n) (fail CountMismatch place) (eq-eqb _ _ e) ∙ sym (then_give (each_at code_at n)))
 
-pub into : (old : Reader WModule) (b at : ℕ) (m : WModule) (r : Option Content) → Takes old b at (rest_behind_codes m r) → PushesInto old b at m (Ok r)
+pub into : (old : Reader WModule) (b at : ℕ) (m : WModule) (r : Option Content) → Takes old b at (rest_behind_codes m r) → PushesInto rest_of_content old b at m (Ok r)
 into old b at m (Some state) t = t
 into old b at m None t = t
 
@@ -44,7 +44,7 @@ into_before old b at m (Some state) t = t
 into_before old b at m None t = t
 
 pub count_done : (m m' : WModule) (functions place n b at : ℕ) (number : LebState) (r : Option Content) → Takes (rest_of_leb number) b at (give n) → n ≡ functions →
-    rest_behind_codes m' r ≡ more_codes m [] n → PushesInto (rest_of_count m functions place number) b at m' (Ok r)
+    rest_behind_codes m' r ≡ more_codes m [] n → PushesInto rest_of_content (rest_of_count m functions place number) b at m' (Ok r)
 count_done m m' functions place n b at number r t e is =
     into (rest_of_count m functions place number) b at m' r (takes_as (counted m functions place n e ∙ sym is) (takes_then (counted_codes m functions place) t))
 

@@ -1,2 +1,3 @@
 pub mod CodeSteps
+pub mod EntrySteps
 pub mod ContentsWantBytes

@@ -1,5 +1,5 @@
 -- The content of a section in the middle (WebAssembly Core Specification 1.0, section 5.5); the states are this project's own.
-use Rattle.std.specs.Prelude.{ℕ, ◌==◌, ◌++◌, [], ◌∷◌, if◌then◌else◌, List, Option, None, Some, Result, Ok, Err}
+use Rattle.std.specs.Prelude.{◌≡◌, ℕ, ◌==◌, ◌++◌, [], ◌∷◌, if◌then◌else◌, List, Option, None, Some, Result, Ok, Err}
 use Rattle.wasm_ast.specs.declared.modules.WModule.{WModule}
 use Rattle.wasm_ast.specs.declared.modules.Import.{Import}
 use Rattle.wasm_ast.specs.declared.modules.WGlobal.{WGlobal}
@@ -38,7 +38,9 @@ use Rattle.wasm_codes.specs.declared.code.CodeState.{CodeState}
 use Rattle.wasm_codes.specs.CodeStates.{rest_of_code}
 use Rattle.wasm_codes.specs.Places.{TakesBefore, StopsBefore}
 use Rattle.wasm_contents.specs.declared.content.Content.{Content}
-use Rattle.wasm_contents.specs.declared.content.Content.TheVariants.{Types, Imports, Funcs, Tables, Memories, Globals, Exports, Elements, Segments, Start, Count, Codes}
+use Rattle.wasm_contents.specs.declared.content.Content.TheVariants as contents
+use Rattle.wasm_contents.specs.declared.entries.Entries.{Entries}
+use Rattle.wasm_contents.specs.declared.entries.Entries.TheVariants.{Types, Imports, Funcs, Tables, Memories, Globals, Exports, Elements, Segments}
 
 -- function types in the middle, and the module with them
 abbrev pub rest_of_types : WModule → VectorState FuncTypeState FuncType → Reader WModule
@@ -76,6 +78,18 @@ rest_of_elements m state = do xs ← rest_of_vector element_at rest_of_element s
 abbrev pub rest_of_segments : WModule → VectorState SegmentState DataSeg → Reader WModule
 rest_of_segments m state = do xs ← rest_of_vector segment_at rest_of_segment state; give (record m { segments = xs })
 
+-- the entries of a section in the middle, and the module with them
+abbrev pub rest_of_entries : WModule → Entries → Reader WModule
+rest_of_entries m (Types state) = rest_of_types m state
+rest_of_entries m (Imports state) = rest_of_imports m state
+rest_of_entries m (Funcs state) = rest_of_funcs m state
+rest_of_entries m (Tables state) = rest_of_tables m state
+rest_of_entries m (Memories state) = rest_of_memories m state
+rest_of_entries m (Globals state) = rest_of_globals m state
+rest_of_entries m (Exports state) = rest_of_exports m state
+rest_of_entries m (Elements state) = rest_of_elements m state
+rest_of_entries m (Segments state) = rest_of_segments m state
+
 -- the start function
 abbrev pub rest_of_start : WModule → LebState → Reader WModule
 rest_of_start m state = do n ← rest_of_leb state; give (record m { start = Some n })
@@ -98,31 +112,31 @@ rest_of_codes m before state behind = do x ← rest_of_code state; more_codes m 
 
 -- the content of a section in the middle, and the module with it
 abbrev pub rest_of_content : WModule → Content → Reader WModule
-rest_of_content m (Types state) = rest_of_types m state
-rest_of_content m (Imports state) = rest_of_imports m state
-rest_of_content m (Funcs state) = rest_of_funcs m state
-rest_of_content m (Tables state) = rest_of_tables m state
-rest_of_content m (Memories state) = rest_of_memories m state
-rest_of_content m (Globals state) = rest_of_globals m state
-rest_of_content m (Exports state) = rest_of_exports m state
-rest_of_content m (Elements state) = rest_of_elements m state
-rest_of_content m (Segments state) = rest_of_segments m state
-rest_of_content m (Start state) = rest_of_start m state
-rest_of_content m (Count alloc functions place state) = rest_of_count m functions place state
-rest_of_content m (Codes alloc before state behind) = rest_of_codes m before state behind
+rest_of_content m (contents.Entries state) = rest_of_entries m state
+rest_of_content m (contents.Start state) = rest_of_start m state
+rest_of_content m (contents.Count alloc functions place state) = rest_of_count m functions place state
+rest_of_content m (contents.Codes alloc before state behind) = rest_of_codes m before state behind
 
 -- what is read behind a content that is whole, or in the middle
 abbrev pub rest_behind_codes : WModule → Option Content → Reader WModule
 rest_behind_codes m (Some state) = rest_of_content m state
 rest_behind_codes m None = give m
 
--- the answer to a byte is what the residual `old` makes of it, where the module is `m` now, or want of memory
-abbrev pub PushesInto : Reader WModule → ℕ → ℕ → WModule → Result (Option Content) DecodeError → Type 0
-PushesInto old b at m (Ok (Some state)) = Takes old b at (rest_of_content m state)
-PushesInto old b at m (Ok None) = Takes old b at (give m)
-PushesInto old b at m (Err e) = Stops old b at e
+-- the answer to a byte of the entries of a field: a further state, with the field as it was; or the entries, which stand
+-- in it now; or a fault, or want of memory
+abbrev pub PutsInto : {S A : Type 0} → (S → Reader A) → S → ℕ → ℕ → A → A → Result (Option S) DecodeError → Type 0
+PutsInto rest_of old b at before after (Ok (Some state)) = (after ≡ before) × Takes (rest_of old) b at (rest_of state)
+PutsInto rest_of old b at before after (Ok None) = Takes (rest_of old) b at (give after)
+PutsInto rest_of old b at before after (Err e) = Stops (rest_of old) b at e
 
--- the same of a byte before the declared end
+-- the answer to a byte is what the residual `old` makes of it, where the module is `m` now and a further state reads as
+-- `rest_of` says, or want of memory
+abbrev pub PushesInto : {S : Type 0} → (WModule → S → Reader WModule) → Reader WModule → ℕ → ℕ → WModule → Result (Option S) DecodeError → Type 0
+PushesInto rest_of old b at m (Ok (Some state)) = Takes old b at (rest_of m state)
+PushesInto rest_of old b at m (Ok None) = Takes old b at (give m)
+PushesInto rest_of old b at m (Err e) = Stops old b at e
+
+-- the same of a content, and of a byte before the declared end
 abbrev pub PushesBefore : Reader WModule → ℕ → ℕ → WModule → Result (Option Content) DecodeError → Type 0
 PushesBefore old b at m (Ok (Some state)) = TakesBefore old b at (rest_of_content m state)
 PushesBefore old b at m (Ok None) = TakesBefore old b at (give m)

@@ -3,32 +3,18 @@ ghost use Rattle.std.specs.Prelude.{◌≡◌, ◌+◌, ◌<◌, ◌≤◌, ◌^
 ghost use Rattle.wasm_ast.specs.declared.modules.WModule.{WModule};
 ghost use Rattle.wasm_reading.specs.ReadModules.{content_at};
 ghost use Rattle.wasm_codes.specs.Places.{AlikeAt};
-ghost use Rattle.wasm_contents.specs.Contents.{rest_of_content, rest_of_start, rest_of_count, rest_of_codes, more_codes, rest_behind_codes, PushesInto, PushesBefore};
+ghost use Rattle.wasm_contents.specs.Contents.{rest_of_content, rest_of_entries, rest_of_start, rest_of_count, rest_of_codes, more_codes, rest_behind_codes, PushesInto, PushesBefore};
 
-use crate::entries::{
-    push_elements, push_exports, push_funcs, push_globals, push_imports, push_memories,
-    push_segments, push_tables, push_types,
-};
+use crate::entries::Entries;
 use std::alloc::Global;
 use wasm_ast::{Code, List, WModule};
 use wasm_codes::CodeState;
-use wasm_entries::{
-    ElementState, ExportState, FuncTypeState, GlobalState, ImportState, SegmentState,
-};
-use wasm_items::{Item, Leb32, MemoryState, Progress, TableState, VectorState, append};
+use wasm_items::{Item, Leb32, Progress, VectorState, append};
 use wasm_reading::{DecodeError, DecodeFault};
 
 /// The content of a section in the middle.
 pub enum Content {
-    Types(VectorState<FuncTypeState>),
-    Imports(VectorState<ImportState>),
-    Funcs(VectorState<Leb32>),
-    Tables(VectorState<TableState>),
-    Memories(VectorState<MemoryState>),
-    Globals(VectorState<GlobalState>),
-    Exports(VectorState<ExportState>),
-    Elements(VectorState<ElementState>),
-    Segments(VectorState<SegmentState>),
+    Entries(Entries),
     Start(Leb32),
     /// The count of the codes, which has to be that of the functions, and whose first byte stands at this place.
     Count {
@@ -51,15 +37,7 @@ pub enum Content {
 impl Drop for Content {
     fn drop(self) {
         match self {
-            Content::Types(_) => (),
-            Content::Imports(_) => (),
-            Content::Funcs(_) => (),
-            Content::Tables(_) => (),
-            Content::Memories(_) => (),
-            Content::Globals(_) => (),
-            Content::Exports(_) => (),
-            Content::Elements(_) => (),
-            Content::Segments(_) => (),
+            Content::Entries(_) => (),
             Content::Start(_) => (),
             Content::Count {
                 alloc: _,
@@ -84,22 +62,22 @@ impl Content {
         ensures { (m : WModule) → length m.funcs ≡ functions → AlikeAt at (content_at id m) (rest_of_content m result) }
     {
         match id {
-            1 => Content::Types(VectorState::start(alloc)),
-            2 => Content::Imports(VectorState::start(alloc)),
-            3 => Content::Funcs(VectorState::start(alloc)),
-            4 => Content::Tables(VectorState::start(alloc)),
-            5 => Content::Memories(VectorState::start(alloc)),
-            6 => Content::Globals(VectorState::start(alloc)),
-            7 => Content::Exports(VectorState::start(alloc)),
+            1 => Content::Entries(Entries::Types(VectorState::start(alloc))),
+            2 => Content::Entries(Entries::Imports(VectorState::start(alloc))),
+            3 => Content::Entries(Entries::Funcs(VectorState::start(alloc))),
+            4 => Content::Entries(Entries::Tables(VectorState::start(alloc))),
+            5 => Content::Entries(Entries::Memories(VectorState::start(alloc))),
+            6 => Content::Entries(Entries::Globals(VectorState::start(alloc))),
+            7 => Content::Entries(Entries::Exports(VectorState::start(alloc))),
             8 => Content::Start(Leb32::unsigned()),
-            9 => Content::Elements(VectorState::start(alloc)),
+            9 => Content::Entries(Entries::Elements(VectorState::start(alloc))),
             10 => Content::Count {
                 alloc,
                 functions,
                 place: at,
                 number: Leb32::unsigned(),
             },
-            _ => Content::Segments(VectorState::start(alloc)),
+            _ => Content::Entries(Entries::Segments(VectorState::start(alloc))),
         }
     }
 
@@ -114,15 +92,7 @@ impl Content {
         ensures { PushesBefore (rest_of_content «module».old self) byte at «module».new result }
     {
         match self {
-            Content::Types(types) => push_types(types, module, byte, at),
-            Content::Imports(imports) => push_imports(imports, module, byte, at),
-            Content::Funcs(funcs) => push_funcs(funcs, module, byte, at),
-            Content::Tables(tables) => push_tables(tables, module, byte, at),
-            Content::Memories(memories) => push_memories(memories, module, byte, at),
-            Content::Globals(globals) => push_globals(globals, module, byte, at),
-            Content::Exports(exports) => push_exports(exports, module, byte, at),
-            Content::Elements(elements) => push_elements(elements, module, byte, at),
-            Content::Segments(segments) => push_segments(segments, module, byte, at),
+            Content::Entries(entries) => push_entries(entries, module, byte, at),
             Content::Start(index) => push_start(index, module, byte, at),
             Content::Count {
                 alloc,
@@ -140,6 +110,21 @@ impl Content {
     }
 }
 
+fn push_entries(
+    entries: Entries,
+    module: &mut WModule,
+    byte: u8,
+    at: u64,
+) -> Result<Option<Content>, DecodeError>
+    requires { at + 1 < 2 ^ 64 }
+    ensures { PushesInto rest_of_content (rest_of_entries «module».old entries) byte at «module».new result }
+{
+    match entries.push(module, byte, at)? {
+        Some(entries) => Ok(Some(Content::Entries(entries))),
+        None => Ok(None),
+    }
+}
+
 fn push_start(
     index: Leb32,
     module: &mut WModule,
@@ -147,7 +132,7 @@ fn push_start(
     at: u64,
 ) -> Result<Option<Content>, DecodeError>
     requires { at + 1 < 2 ^ 64 }
-    ensures { PushesInto (rest_of_start «module».old index) byte at «module».new result }
+    ensures { PushesInto rest_of_content (rest_of_start «module».old index) byte at «module».new result }
 {
     match index.push(byte, at)? {
         Progress::More(index) => Ok(Some(Content::Start(index))),
@@ -169,7 +154,7 @@ fn push_count(
     at: u64,
 ) -> Result<Option<Content>, DecodeError>
     requires { at + 1 < 2 ^ 64 }
-    ensures { PushesInto (rest_of_count «module».old functions place number) byte at «module».new result }
+    ensures { PushesInto rest_of_content (rest_of_count «module».old functions place number) byte at «module».new result }
 {
     match number.push(byte, at)? {
         Progress::More(number) => Ok(Some(Content::Count {

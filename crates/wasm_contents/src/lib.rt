@@ -6,4 +6,5 @@ mod entries;
 mod laws;
 
 pub use content::Content;
+pub use entries::Entries;
 pub use laws::each_content_wants_a_byte;
