@@ -7,11 +7,11 @@ use Rattle.rw_types.specs.declared.types.Ty.{Ty, Of}
 use Rattle.rw_types.specs.declared.types.Pre.{I64}
 use Rattle.rw_types.specs.declared.types.Qual.TheVariants.{Unr}
 use Rattle.rw_types.specs.LoneMain.{IsPlain, ArePlain}
-use Rattle.rich_meaning.specs.declared.notes.Note.{Note}
-use Rattle.rich_meaning.specs.declared.rules.Rule.{Rule}
-use Rattle.rich_meaning.specs.Kinds.{size, words_of}
-use Rattle.rich_meaning.specs.Table.{Outcome, Gives, need, i64_form, unr_i64, row, note_of}
-use Rattle.rich_meaning.specs.Derivations.{Derives, done, next}
+use Rattle.rich_typing.specs.declared.notes.Note.{Note}
+use Rattle.rich_typing.specs.declared.rules.Rule.{Rule}
+use Rattle.rich_typing.specs.Kinds.{size, words_of}
+use Rattle.rich_typing.specs.Table.{Outcome, Gives, need, i64_form, unr_i64, row, note_of}
+use Rattle.rich_typing.specs.Derivations.{Derives, done, next}
 use Rattle.lower.specs.Heights.{IsWithin, AreWithin}
 
 -- each type is one word

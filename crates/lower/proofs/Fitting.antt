@@ -14,7 +14,7 @@ use Rattle.wasm_spelling.proofs.KnownInstructions.{known_fits, known_constant, o
 use Rattle.rw_types.specs.declared.instrs.Instr.{Instr, I64Const, Num, Print, Drop}
 use Rattle.rw_types.specs.declared.numbers.NumName.TheVariants.{I64Add}
 use Rattle.rw_types.specs.LoneMain.{IsPlain, ArePlain}
-use Rattle.rich_meaning.specs.declared.notes.Note.{Note}
+use Rattle.rich_typing.specs.declared.notes.Note.{Note}
 use Rattle.rw_program.specs.LonePrograms.{lone_func, lone_program}
 use Rattle.rw_program.specs.Programs.{Program}
 use Rattle.lowering_table.specs.declared.Pages.{Pages}

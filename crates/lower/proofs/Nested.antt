@@ -10,7 +10,7 @@ use Rattle.wasm_grammar.specs.Nesting.{greatest, immediate_nesting, nesting, nes
 use Rattle.wasm_grammar.proofs.InstructionLayers.{nesting-layer}
 use Rattle.rw_types.specs.declared.instrs.Instr.{Instr, I64Const, Num, Print, Drop}
 use Rattle.rw_types.specs.declared.numbers.NumName.TheVariants.{I64Add}
-use Rattle.rich_meaning.specs.declared.notes.Note.{Note}
+use Rattle.rich_typing.specs.declared.notes.Note.{Note}
 use Rattle.rw_program.specs.declared.linked.LinkedFunc.{LinkedFunc}
 use Rattle.lowering_table.specs.declared.Pages.{Pages}
 use Rattle.lowering_table.specs.Rows.{row, rows}

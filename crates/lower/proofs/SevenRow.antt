@@ -11,8 +11,8 @@ use Rattle.wasm_grammar.specs.CanonicalModules.{section_bytes, section_of, start
 use Rattle.wasm_grammar.specs.GrammarModules.{SpellsModule}
 use Rattle.wasm_spelling.proofs.KnownInstructions.{known_bytes}
 use Rattle.wasm_spelling.proofs.SpelledModules.{canonical_bytes_spell}
-use Rattle.rich_meaning.specs.Derivations.{done, next}
-use Rattle.rich_meaning.specs.Table.{unr_i64}
+use Rattle.rich_typing.specs.Derivations.{done, next}
+use Rattle.rich_typing.specs.Table.{unr_i64}
 use Rattle.rw_program.specs.LonePrograms.{IsLoneProgram}
 use Rattle.lowering_table.specs.Modules.{ArePages}
 use Rattle.lower.specs.SevenRow.{seven_body, seven_notes, seven_program, seven_pages, seven_module, seven_types, seven_imports, seven_functions, seven_tables, seven_memories, seven_globals, seven_exports, seven_elements, seven_codes, seven_segments, seven_binary}

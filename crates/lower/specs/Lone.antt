@@ -4,7 +4,7 @@ use Rattle.wasm_ast.specs.declared.modules.Code.{Code}
 use Rattle.wasm_ast.specs.declared.modules.WModule.{WModule}
 use Rattle.rw_types.specs.declared.instrs.Instr.{Instr}
 use Rattle.rw_types.specs.LoneMain.{ArePlain}
-use Rattle.rich_meaning.specs.declared.notes.Note.{Note}
+use Rattle.rich_typing.specs.declared.notes.Note.{Note}
 use Rattle.rw_program.specs.declared.linked.LinkedFunc.{LinkedFunc}
 use Rattle.rw_program.specs.LonePrograms.{lone_func, lone_program}
 use Rattle.lowering_table.specs.Allocators.{unreachable_code}

@@ -2,8 +2,8 @@
 use Rattle.std.specs.Prelude.{ℕ, List, [], ◌∷◌, ◌++◌}
 use Rattle.wasm_ast.specs.declared.modules.WModule.{WModule}
 use Rattle.rw_types.specs.declared.instrs.Instr.{Instr, I64Const, Print}
-use Rattle.rich_meaning.specs.declared.notes.Note.{Note}
-use Rattle.rich_meaning.specs.Table.{unr_i64, note_of}
+use Rattle.rich_typing.specs.declared.notes.Note.{Note}
+use Rattle.rich_typing.specs.Table.{unr_i64, note_of}
 use Rattle.rw_program.specs.LonePrograms.{lone_program}
 use Rattle.rw_program.specs.Programs.{Program}
 use Rattle.lowering_table.specs.declared.Pages.{Pages}

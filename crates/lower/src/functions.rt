@@ -8,7 +8,7 @@ ghost use Rattle.lowering_table.specs.Rows.{row, rows, gives};
 ghost use Rattle.lower.specs.Heights.{IsWithin, AreWithin};
 
 use crate::LowerError;
-use rich_meaning::Note;
+use rich_typing::Note;
 use rw_types::{Instr, NumName};
 use std::alloc::Global;
 use wasm_ast::{Code, List, LocalRun, ValTy, WInstr};

@@ -11,9 +11,9 @@ use Rattle.wasm_ast.specs.declared.modules.WModule.{WModule}
 use Rattle.rw_types.specs.declared.instrs.Instr.{Instr, I64Const, Num, Print, Drop}
 use Rattle.rw_types.specs.declared.numbers.NumName.TheVariants.{I64Add}
 use Rattle.rw_types.specs.LoneMain.{ArePlain}
-use Rattle.rich_meaning.specs.declared.notes.Note.{Note}
-use Rattle.rich_meaning.specs.Derivations.{Derives, done, next}
-use Rattle.rich_meaning.specs.Table.{unr_i64, i64s}
+use Rattle.rich_typing.specs.declared.notes.Note.{Note}
+use Rattle.rich_typing.specs.Derivations.{Derives, done, next}
+use Rattle.rich_typing.specs.Table.{unr_i64, i64s}
 use Rattle.rw_program.specs.Programs.{Program}
 use Rattle.lowering_table.specs.declared.Pages.{Pages}
 use Rattle.lowering_table.specs.Frames.{room_of}
@@ -25,13 +25,13 @@ use Rattle.machine_steps.specs.Ending.{BothEnd}
 use Rattle.machine_steps.specs.Simulations.{Answered, Follows}
 use Rattle.machine_steps.proofs.Alike.{alike}
 use Rattle.machine_steps.proofs.Ending.{both_end}
-use Rattle.rich_steps.specs.Configurations as rc
-use Rattle.rich_steps.specs.Steps as rs
-use Rattle.rich_steps.specs.Starts.{first, rich}
-use Rattle.wasm_meaning.specs.Configurations as wc
-use Rattle.wasm_meaning.specs.Environments.{Environment}
-use Rattle.wasm_meaning.specs.Steps as ws
-use Rattle.wasm_meaning.specs.Starts.{first_store, wasm}
+use Rattle.rich_reduction.specs.Configurations as rc
+use Rattle.rich_reduction.specs.Steps as rs
+use Rattle.rich_reduction.specs.Starts.{first, rich}
+use Rattle.wasm_execution.specs.Configurations as wc
+use Rattle.wasm_execution.specs.Environments.{Environment}
+use Rattle.wasm_execution.specs.Steps as ws
+use Rattle.wasm_execution.specs.Starts.{first_store, wasm}
 use Rattle.lowering_laws.specs.Laws.{LoweredBehaves, LoweredEnds}
 use Rattle.lowering_laws.proofs.Locals.{Stored}
 use Rattle.lowering_laws.proofs.Values.{derives_on, in_call, gives_value}

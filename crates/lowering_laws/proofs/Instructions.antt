@@ -8,16 +8,16 @@ use Rattle.wasm_ast.specs.declared.instructions.WInstr.TheVariants.{rolls-LocalS
 use Rattle.rw_types.specs.declared.instrs.Instr.{Instr, I64Const, Num, Print, Drop}
 use Rattle.rw_types.specs.declared.numbers.NumName.TheVariants.{I64Add}
 use Rattle.rw_types.specs.LoneMain.{ArePlain}
-use Rattle.rich_meaning.specs.declared.notes.Note.{Note}
-use Rattle.rich_meaning.specs.Derivations.{Derives}
-use Rattle.rich_meaning.specs.Kinds.{words_of}
-use Rattle.rich_meaning.specs.Table.{unr_i64, i64s, note_of}
+use Rattle.rich_typing.specs.declared.notes.Note.{Note}
+use Rattle.rich_typing.specs.Derivations.{Derives}
+use Rattle.rich_typing.specs.Kinds.{words_of}
+use Rattle.rich_typing.specs.Table.{unr_i64, i64s, note_of}
 use Rattle.lowering_table.specs.declared.Pages.{Pages}
 use Rattle.lowering_table.specs.Frames.{room_of}
 use Rattle.lowering_table.specs.Rows.{rows}
-use Rattle.rich_steps.specs.Configurations as rc
-use Rattle.wasm_meaning.specs.Configurations as wc
-use Rattle.wasm_meaning.specs.Environments.{Environment}
+use Rattle.rich_reduction.specs.Configurations as rc
+use Rattle.wasm_execution.specs.Configurations as wc
+use Rattle.wasm_execution.specs.Environments.{Environment}
 use Rattle.lowering_laws.proofs.Locals.{Stored, length_set, stored_on}
 use Rattle.lowering_laws.proofs.Values.{in_call}
 use Rattle.lowering_laws.proofs.Walks.{acts, quiet_zero, quiet_more}

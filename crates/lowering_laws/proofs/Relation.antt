@@ -11,9 +11,9 @@ use Rattle.wasm_ast.specs.declared.instructions.WInstr.TheVariants.{rolls-LocalG
 use Rattle.wasm_ast.specs.declared.modules.WModule.{WModule}
 use Rattle.rw_types.specs.declared.instrs.Instr.{Instr}
 use Rattle.rw_types.specs.LoneMain.{ArePlain}
-use Rattle.rich_meaning.specs.declared.notes.Note.{Note}
-use Rattle.rich_meaning.specs.Derivations.{Derives}
-use Rattle.rich_meaning.specs.Table.{unr_i64, i64s}
+use Rattle.rich_typing.specs.declared.notes.Note.{Note}
+use Rattle.rich_typing.specs.Derivations.{Derives}
+use Rattle.rich_typing.specs.Table.{unr_i64, i64s}
 use Rattle.rw_program.specs.LonePrograms.{lone_program}
 use Rattle.rw_program.specs.Programs.{Program}
 use Rattle.lowering_table.specs.declared.Pages.{Pages}
@@ -22,13 +22,13 @@ use Rattle.lowering_table.specs.Rows.{rows}
 use Rattle.lowering_table.specs.Modules.{low_module}
 use Rattle.machine_steps.specs.Steps.{Turn, Went}
 use Rattle.machine_steps.specs.Simulations.{Moves, Answers}
-use Rattle.rich_steps.specs.Configurations as rc
-use Rattle.rich_steps.specs.Steps as rs
-use Rattle.rich_steps.specs.Starts.{first}
-use Rattle.wasm_meaning.specs.Configurations as wc
-use Rattle.wasm_meaning.specs.Environments.{Environment, environment_of}
-use Rattle.wasm_meaning.specs.Steps as ws
-use Rattle.wasm_meaning.specs.Starts.{first_store}
+use Rattle.rich_reduction.specs.Configurations as rc
+use Rattle.rich_reduction.specs.Steps as rs
+use Rattle.rich_reduction.specs.Starts.{first}
+use Rattle.wasm_execution.specs.Configurations as wc
+use Rattle.wasm_execution.specs.Environments.{Environment, environment_of}
+use Rattle.wasm_execution.specs.Steps as ws
+use Rattle.wasm_execution.specs.Starts.{first_store}
 use Rattle.lowering_laws.proofs.Locals.{Stored}
 use Rattle.lowering_laws.proofs.Values.{in_call}
 use Rattle.lowering_laws.proofs.Walks.{acts, Quiet, speaks}

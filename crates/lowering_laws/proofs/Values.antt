@@ -7,14 +7,14 @@ use Rattle.rw_types.specs.declared.instrs.Instr.{Instr, I64Const, Num, Print, Dr
 use Rattle.rw_types.specs.declared.numbers.NumName.TheVariants.{I64Add}
 use Rattle.rw_types.specs.declared.types.Ty.{Ty}
 use Rattle.rw_types.specs.LoneMain.{ArePlain}
-use Rattle.rich_meaning.specs.declared.notes.Note.{Note}
-use Rattle.rich_meaning.specs.Derivations.{Derives, done, next}
-use Rattle.rich_meaning.specs.Table.{Gives, unr_i64, i64s}
+use Rattle.rich_typing.specs.declared.notes.Note.{Note}
+use Rattle.rich_typing.specs.Derivations.{Derives, done, next}
+use Rattle.rich_typing.specs.Table.{Gives, unr_i64, i64s}
 use Rattle.rw_program.specs.LonePrograms.{lone_func}
 use Rattle.machine_steps.specs.declared.End.TheVariants.{Value}
 use Rattle.machine_steps.specs.Steps.{Over, reached}
-use Rattle.rich_steps.specs.Configurations as rc
-use Rattle.rich_steps.specs.Steps as rs
+use Rattle.rich_reduction.specs.Configurations as rc
+use Rattle.rich_reduction.specs.Steps as rs
 
 gives_same : (a b : List Ty) → Gives a ≡ Gives b → a ≡ b
 gives_same a b e = cc

@@ -6,9 +6,9 @@ use Rattle.wasm_ast.specs.declared.instructions.WInstr.TheOpen.{WInstr-F}
 use Rattle.machine_steps.specs.Steps.{Went, onward, going, reached_by, reached}
 use Rattle.machine_steps.specs.Simulations.{Comes}
 use Rattle.machine_steps.proofs.Follow.{comes_later}
-use Rattle.wasm_meaning.specs.Configurations as wc
-use Rattle.wasm_meaning.specs.Environments.{Environment}
-use Rattle.wasm_meaning.specs.Steps as ws
+use Rattle.wasm_execution.specs.Configurations as wc
+use Rattle.wasm_execution.specs.Environments.{Environment}
+use Rattle.wasm_execution.specs.Steps as ws
 
 module _ (e : Environment) where
   -- an instruction by its layer

@@ -5,8 +5,8 @@ use Rattle.lowering_table.specs.declared.Pages.{Pages}
 use Rattle.lowering_table.specs.Modules.{low_module}
 use Rattle.machine_steps.specs.Agreement.{Alike}
 use Rattle.machine_steps.specs.Ending.{BothEnd}
-use Rattle.rich_steps.specs.Starts.{rich}
-use Rattle.wasm_meaning.specs.Starts.{wasm}
+use Rattle.rich_reduction.specs.Starts.{rich}
+use Rattle.wasm_execution.specs.Starts.{wasm}
 
 -- the lowered module of each program that is lowered so far prints and ends as the program does, both ways, unless it is
 -- exhausted

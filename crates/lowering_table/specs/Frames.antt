@@ -1,8 +1,8 @@
 -- The frame of a lowered function: Wasm locals of 64 bits for its parameter words, its slot words, its operand
 -- words, and two scratch words. This project's own.
 use Rattle.std.specs.Prelude.{ℕ, ◌+◌, max, List, [], ◌∷◌}
-use Rattle.rich_meaning.specs.Kinds.{words_of}
-use Rattle.rich_meaning.specs.declared.notes.Note.{Note}
+use Rattle.rich_typing.specs.Kinds.{words_of}
+use Rattle.rich_typing.specs.declared.notes.Note.{Note}
 
 -- how many words stand in the frame's operands before an instruction
 abbrev pub height_of : Note → ℕ

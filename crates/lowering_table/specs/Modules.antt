@@ -11,7 +11,7 @@ use Rattle.wasm_ast.specs.declared.modules.Code.{Code}
 use Rattle.wasm_ast.specs.declared.modules.Export.{Export}
 use Rattle.wasm_ast.specs.declared.modules.WGlobal.{WGlobal}
 use Rattle.wasm_ast.specs.declared.modules.WModule.{WModule}
-use Rattle.rich_meaning.specs.Kinds.{size, words_of}
+use Rattle.rich_typing.specs.Kinds.{size, words_of}
 use Rattle.rw_program.specs.declared.linked.LinkedFunc.{LinkedFunc}
 use Rattle.rw_program.specs.declared.linked.LinkedGlobal.{LinkedGlobal}
 use Rattle.rw_program.specs.Programs.{Program}

@@ -3,7 +3,7 @@ use Rattle.std.specs.Prelude.{ℕ, zero, suc, ◌+◌, List, [], ◌∷◌, ◌+
 use Rattle.wasm_ast.specs.declared.instructions.WInstr as w
 use Rattle.rw_types.specs.declared.instrs.Instr.{Instr, I64Const, Num, Print, Drop}
 use Rattle.rw_types.specs.declared.numbers.NumName.TheVariants.{I64Add}
-use Rattle.rich_meaning.specs.declared.notes.Note.{Note}
+use Rattle.rich_typing.specs.declared.notes.Note.{Note}
 
 -- what stands for an instruction that does nothing to words
 abbrev pub erased : List w.WInstr

@@ -7,13 +7,13 @@ use Rattle.rw_types.specs.declared.numbers.NumName.TheVariants.{I64Add}
 use Rattle.rw_types.specs.declared.types.Binder.{Binder}
 use Rattle.rw_types.specs.declared.types.Ty.{Ty}
 use Rattle.rw_types.specs.LoneMain.{IsPlain}
-use Rattle.rich_meaning.specs.declared.notes.Note.{Note}
-use Rattle.rich_meaning.specs.declared.rules.Rule.{Rule}
-use Rattle.rich_meaning.specs.declared.rules.Rule.TheVariants.{Operands, BlockEnd}
-use Rattle.rich_meaning.specs.Kinds.{words_of}
-use Rattle.rich_meaning.specs.Table.{Gives, Breaks, row, note_of, takes, unr_i64, i64s}
-use Rattle.rich_meaning.specs.Derivations.{Derives, done, next}
-use Rattle.rich_meaning.specs.Violations.{in_count, BreaksHere, at_instr, at_end, BreaksAt}
+use Rattle.rich_typing.specs.declared.notes.Note.{Note}
+use Rattle.rich_typing.specs.declared.rules.Rule.{Rule}
+use Rattle.rich_typing.specs.declared.rules.Rule.TheVariants.{Operands, BlockEnd}
+use Rattle.rich_typing.specs.Kinds.{words_of}
+use Rattle.rich_typing.specs.Table.{Gives, Breaks, row, note_of, takes, unr_i64, i64s}
+use Rattle.rich_typing.specs.Derivations.{Derives, done, next}
+use Rattle.rich_typing.specs.Violations.{in_count, BreaksHere, at_instr, at_end, BreaksAt}
 use Rattle.rw_program.specs.declared.checked.CheckError.{CheckError}
 use Rattle.rw_program.specs.declared.checked.CheckError.TheVariants.{Refused, Memory}
 use Rattle.rw_check.specs.Counts.{gives}

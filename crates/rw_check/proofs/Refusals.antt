@@ -5,12 +5,12 @@ use Rattle.rw_types.specs.declared.modules.FuncDef.{FuncDef}
 use Rattle.rw_types.specs.declared.modules.Module.{Module}
 use Rattle.rw_types.specs.declared.types.Ty.{Ty}
 use Rattle.rw_types.specs.LoneMain.{IsLoneMain, main_type}
-use Rattle.rich_meaning.specs.declared.notes.Note.{Note}
-use Rattle.rich_meaning.specs.declared.rules.Rule.{Rule}
-use Rattle.rich_meaning.specs.Derivations.{IsTyped}
-use Rattle.rich_meaning.specs.Table.{unr_i64}
-use Rattle.rich_meaning.specs.Violations.{Violation, FirstViolation, in_body, BreaksAt, BreaksBody}
-use Rattle.rich_meaning.proofs.LoneModules.{one_derivation, module_never_both, one_violation}
+use Rattle.rich_typing.specs.declared.notes.Note.{Note}
+use Rattle.rich_typing.specs.declared.rules.Rule.{Rule}
+use Rattle.rich_typing.specs.Derivations.{IsTyped}
+use Rattle.rich_typing.specs.Table.{unr_i64}
+use Rattle.rich_typing.specs.Violations.{Violation, FirstViolation, in_body, BreaksAt, BreaksBody}
+use Rattle.rich_typing.proofs.LoneModules.{one_derivation, module_never_both, one_violation}
 use Rattle.rw_program.specs.declared.checked.CheckError.{CheckError}
 use Rattle.rw_program.specs.declared.checked.CheckError.TheVariants.{Refused, Memory}
 use Rattle.rw_program.specs.Modules.{TypedModule}

@@ -2,11 +2,11 @@
 use Rattle.std.specs.Prelude.{◌≡◌, ◌⊎◌, ℕ, List, [], ◌∷◌, Result, Err, None, ⊤}
 use Rattle.rw_types.specs.declared.instrs.Instr.{Instr}
 use Rattle.rw_types.specs.declared.modules.Module.{Module}
-use Rattle.rich_meaning.specs.declared.notes.Place.TheVariants.{FuncType, FuncAt}
-use Rattle.rich_meaning.specs.declared.rules.Rule.{Rule}
-use Rattle.rich_meaning.specs.declared.rules.Rule.TheVariants.{NotYetBuilt}
-use Rattle.rich_meaning.specs.Table.{unr_i64}
-use Rattle.rich_meaning.specs.Violations.{Violation, FirstViolation, BreaksAt}
+use Rattle.rich_typing.specs.declared.notes.Place.TheVariants.{FuncType, FuncAt}
+use Rattle.rich_typing.specs.declared.rules.Rule.{Rule}
+use Rattle.rich_typing.specs.declared.rules.Rule.TheVariants.{NotYetBuilt}
+use Rattle.rich_typing.specs.Table.{unr_i64}
+use Rattle.rich_typing.specs.Violations.{Violation, FirstViolation, BreaksAt}
 use Rattle.rw_program.specs.declared.checked.CheckError.{CheckError}
 use Rattle.rw_program.specs.declared.checked.CheckError.TheVariants.{Refused, Memory}
 use Rattle.rw_program.specs.Modules.{TypedModule}

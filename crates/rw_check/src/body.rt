@@ -1,7 +1,7 @@
 ghost use Rattle.std.specs.Prelude.{◌≡◌, ◌≤◌, [], ◌∷◌, ◌++◌, length, IfOk, OnOk, MatchResult, None};
 ghost use Rattle.rw_types.specs.LoneMain.{IsPlain, ArePlain};
-ghost use Rattle.rich_meaning.specs.Derivations.{Derives};
-ghost use Rattle.rich_meaning.specs.Table.{takes, unr_i64, i64s};
+ghost use Rattle.rich_typing.specs.Derivations.{Derives};
+ghost use Rattle.rich_typing.specs.Table.{takes, unr_i64, i64s};
 ghost use Rattle.rw_check.specs.Counts.{gives};
 ghost use Rattle.rw_check.specs.Answers.{TellsPlace, TellsBody};
 

@@ -1,8 +1,8 @@
 ghost use Rattle.std.specs.Prelude.{◌≡◌, ◌↔◌, List, Err, Ok, IfOk, IfErr};
 ghost use Rattle.rw_types.specs.LoneMain.{IsLoneMain};
-ghost use Rattle.rich_meaning.specs.declared.notes.Note.{Note as NoteTree};
-ghost use Rattle.rich_meaning.specs.Derivations.{IsTyped};
-ghost use Rattle.rich_meaning.specs.Violations.{Violation, FirstViolation};
+ghost use Rattle.rich_typing.specs.declared.notes.Note.{Note as NoteTree};
+ghost use Rattle.rich_typing.specs.Derivations.{IsTyped};
+ghost use Rattle.rich_typing.specs.Violations.{Violation, FirstViolation};
 ghost use Rattle.rw_check.specs.Answers.{refusal, not_yet_built, TellsFirst, TellsNoTypes, UnlessMemory};
 
 use crate::body::check_body;

@@ -3,8 +3,8 @@ use Rattle.std.proofs.Common.{◌≡◌, ℕ, List, [], ◌∷◌, ◌++◌, Opt
 use Rattle.rw_types.specs.declared.modules.FuncDef.{FuncDef}
 use Rattle.rw_types.specs.declared.modules.GlobalDef.{GlobalDef}
 use Rattle.rw_types.specs.declared.modules.Module.{Module}
-use Rattle.rich_meaning.specs.declared.notes.Note.{Note}
-use Rattle.rich_meaning.specs.Derivations.{IsTyped, HaveDerivations}
+use Rattle.rich_typing.specs.declared.notes.Note.{Note}
+use Rattle.rich_typing.specs.Derivations.{IsTyped, HaveDerivations}
 use Rattle.rw_program.specs.declared.linked.LinkedFunc.{LinkedFunc}
 use Rattle.rw_program.specs.declared.linked.LinkedGlobal.{LinkedGlobal}
 use Rattle.rw_program.specs.Linking.{exported, linked_funcs, linked_globals, program_of, program_with}

@@ -5,8 +5,8 @@ use Rattle.std.specs.Str.{bytes_eq}
 use Rattle.rw_types.specs.declared.modules.ExportDef.{ExportDef}
 use Rattle.rw_types.specs.declared.modules.FuncDef.{FuncDef}
 use Rattle.rw_types.specs.declared.modules.GlobalDef.{GlobalDef}
-use Rattle.rich_meaning.specs.declared.notes.Note.{Note}
-use Rattle.rich_meaning.specs.Derivations.{IsTyped}
+use Rattle.rich_typing.specs.declared.notes.Note.{Note}
+use Rattle.rich_typing.specs.Derivations.{IsTyped}
 use Rattle.rw_program.specs.declared.linked.LinkedFunc.{LinkedFunc}
 use Rattle.rw_program.specs.declared.linked.LinkedGlobal.{LinkedGlobal}
 use Rattle.rw_program.specs.Modules.{TypedModule}

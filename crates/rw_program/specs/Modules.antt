@@ -1,7 +1,7 @@
 -- A module beside the notes of its bodies. This project's own.
 use Rattle.std.specs.Prelude.{List}
 use Rattle.rw_types.specs.declared.modules.Module.{Module}
-use Rattle.rich_meaning.specs.declared.notes.Note.{Note}
+use Rattle.rich_typing.specs.declared.notes.Note.{Note}
 
 -- what a checked module is seen as
 pub record TypedModule : Type 0 where

@@ -1,7 +1,7 @@
 ghost use Rattle.std.specs.Prelude.{◌≡◌, ◌<◌, length, slice_get, Some};
-ghost use Rattle.rich_meaning.specs.Derivations.{IsTyped};
+ghost use Rattle.rich_typing.specs.Derivations.{IsTyped};
 
-use rich_meaning::{Note, Place, Rule};
+use rich_typing::{Note, Place, Rule};
 use rw_types::{List, Module, Ty};
 use std::alloc::AllocError;
 use std::fmt::{self, Debug, Formatter, Write};
@@ -52,7 +52,7 @@ pub struct Checked {
 
 impl Model for Checked {
     ghost use Rattle.rw_program.specs.Modules.{TypedModule};
-    ghost use Rattle.rich_meaning.specs.Derivations.{IsTyped};
+    ghost use Rattle.rich_typing.specs.Derivations.{IsTyped};
     ghost use Rattle.std.specs.Coded.{codes};
     ghost use Rattle.rw_types.specs.contracts.instrs.Instr as instr;
     ghost use Rattle.rw_types.specs.contracts.types.Ty as ty;

@@ -8,4 +8,4 @@ mod linked;
 pub use checked::{CheckError, Checked};
 pub use laws::none_dropped;
 pub use linked::{Linked, LinkedFunc, LinkedGlobal};
-pub use rich_meaning::{Note, Place, Rule};
+pub use rich_typing::{Note, Place, Rule};

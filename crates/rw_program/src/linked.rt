@@ -1,6 +1,6 @@
 ghost use Rattle.std.specs.Prelude.{◌≡◌};
 
-use rich_meaning::Note;
+use rich_typing::Note;
 use rw_types::{FunType, Instr, List, Ty};
 use std::marker::Model;
 

@@ -8,10 +8,10 @@ use Rattle.std.specs.Io.KnownBytes.{append_known}
 use Rattle.rw_types.specs.declared.modules.Module.{Module}
 use Rattle.rw_text.specs.Spells.{Spells, SpellsNone}
 use Rattle.rw_text.proofs.Whole.{one_module}
-use Rattle.rich_meaning.specs.declared.notes.Note.{Note}
-use Rattle.rich_meaning.specs.Derivations.{IsTyped}
-use Rattle.rich_meaning.specs.Violations.{Violation, FirstViolation}
-use Rattle.rich_meaning.proofs.LoneModules.{module_never_both}
+use Rattle.rich_typing.specs.declared.notes.Note.{Note}
+use Rattle.rich_typing.specs.Derivations.{IsTyped}
+use Rattle.rich_typing.specs.Violations.{Violation, FirstViolation}
+use Rattle.rich_typing.proofs.LoneModules.{module_never_both}
 use Rattle.rw_io.specs.Files.{NamedFile, content_of}
 use Rattle.rwc.specs.Acts.{Act, create, append, put, Seen, after_act, after_acts, IsPart, BreaksOff}
 use Rattle.rwc.specs.Answers.{text_of, PutsText, HasStatus, IsUnloadable, IsRefused}

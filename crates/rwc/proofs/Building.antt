@@ -9,16 +9,16 @@ use Rattle.wasm_grammar.specs.CanonicalModules.{HasShortContents, module_bytes}
 use Rattle.wasm_grammar.specs.GrammarModules.{SpellsModule}
 use Rattle.rw_types.specs.declared.modules.Module.{Module}
 use Rattle.rw_text.specs.Spells.{Spells}
-use Rattle.rich_meaning.specs.declared.notes.Note.{Note}
-use Rattle.rich_meaning.specs.Derivations.{Derives, HaveDerivations, IsTyped}
-use Rattle.rich_meaning.specs.Table.{unr_i64}
+use Rattle.rich_typing.specs.declared.notes.Note.{Note}
+use Rattle.rich_typing.specs.Derivations.{Derives, HaveDerivations, IsTyped}
+use Rattle.rich_typing.specs.Table.{unr_i64}
 use Rattle.rw_types.specs.declared.instrs.Instr.{Instr}
 use Rattle.rw_types.specs.LoneMain.{lone_main}
 use Rattle.rw_program.specs.LonePrograms.{IsLoneProgram, lone_program}
 use Rattle.machine_steps.specs.Agreement.{Alike}
 use Rattle.machine_steps.specs.Ending.{BothEnd}
-use Rattle.rich_steps.specs.Starts.{rich}
-use Rattle.wasm_meaning.specs.Starts.{wasm}
+use Rattle.rich_reduction.specs.Starts.{rich}
+use Rattle.wasm_execution.specs.Starts.{wasm}
 use Rattle.lowering_laws.proofs.Behaves.{lowered_behaves, lowered_ends}
 use Rattle.rw_program.specs.Linking.{program_of}
 use Rattle.rw_program.specs.Programs.{Program}

@@ -11,9 +11,9 @@ use Rattle.wasm_reading.specs.declared.fault.DecodeError.{DecodeError}
 use Rattle.wasm_reading_laws.proofs.Faults.{never_both, one_first_fault}
 use Rattle.rw_types.specs.declared.modules.Module.{Module}
 use Rattle.rw_text.proofs.Whole.{one_module}
-use Rattle.rich_meaning.specs.declared.notes.Note.{Note}
-use Rattle.rich_meaning.specs.Violations.{Violation}
-use Rattle.rich_meaning.proofs.LoneModules.{one_derivation, module_never_both, one_violation}
+use Rattle.rich_typing.specs.declared.notes.Note.{Note}
+use Rattle.rich_typing.specs.Violations.{Violation}
+use Rattle.rich_typing.proofs.LoneModules.{one_derivation, module_never_both, one_violation}
 use Rattle.rw_program.specs.Modules.{TypedModule}
 use Rattle.rw_program.specs.Programs.{Program}
 use Rattle.lowering_table.specs.declared.Pages.{Pages}

@@ -4,7 +4,7 @@ use Rattle.std.specs.declared.option.Option.{Option}
 use Rattle.std.specs.Io.KnownBytes.{append_known}
 use Rattle.rw_types.specs.declared.modules.Module.{Module}
 use Rattle.rw_text.specs.Spells.{Spells, SpellsNone}
-use Rattle.rich_meaning.specs.Violations.{Violation, FirstViolation}
+use Rattle.rich_typing.specs.Violations.{Violation, FirstViolation}
 use Rattle.rw_io.specs.Files.{NamedFile}
 use Rattle.rwc.specs.Acts.{Act, create, append, put}
 use Rattle.rwc.specs.Jobs.{Job, max_file_length}

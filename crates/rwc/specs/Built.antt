@@ -4,16 +4,16 @@ use Rattle.wasm_grammar.specs.CanonicalModules.{module_bytes}
 use Rattle.wasm_grammar.specs.GrammarModules.{SpellsModule}
 use Rattle.rw_types.specs.declared.modules.Module.{Module}
 use Rattle.rw_text.specs.Spells.{Spells}
-use Rattle.rich_meaning.specs.declared.notes.Note.{Note}
-use Rattle.rich_meaning.specs.Derivations.{IsTyped}
+use Rattle.rich_typing.specs.declared.notes.Note.{Note}
+use Rattle.rich_typing.specs.Derivations.{IsTyped}
 use Rattle.rw_program.specs.Linking.{program_of}
 use Rattle.rw_program.specs.Programs.{Program}
 use Rattle.lowering_table.specs.declared.Pages.{Pages}
 use Rattle.lowering_table.specs.Modules.{low_module}
 use Rattle.machine_steps.specs.Agreement.{Alike}
 use Rattle.machine_steps.specs.Ending.{BothEnd}
-use Rattle.rich_steps.specs.Starts.{rich}
-use Rattle.wasm_meaning.specs.Starts.{wasm}
+use Rattle.rich_reduction.specs.Starts.{rich}
+use Rattle.wasm_execution.specs.Starts.{wasm}
 use Rattle.rw_io.specs.Files.{NamedFile, content_of}
 use Rattle.rw_io.specs.States.{ShelfState, SinkState}
 use Rattle.rwc.specs.Lines.{wrote_line}

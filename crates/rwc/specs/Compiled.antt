@@ -7,9 +7,9 @@ use Rattle.wasm_grammar.specs.CanonicalModules.{HasShortContents, module_bytes}
 use Rattle.wasm_grammar.specs.GrammarModules.{SpellsModule}
 use Rattle.rw_types.specs.declared.modules.Module.{Module}
 use Rattle.rw_text.specs.Spells.{Spells, SpellsNone}
-use Rattle.rich_meaning.specs.declared.notes.Note.{Note}
-use Rattle.rich_meaning.specs.Derivations.{IsTyped}
-use Rattle.rich_meaning.specs.Violations.{Violation, FirstViolation}
+use Rattle.rich_typing.specs.declared.notes.Note.{Note}
+use Rattle.rich_typing.specs.Derivations.{IsTyped}
+use Rattle.rich_typing.specs.Violations.{Violation, FirstViolation}
 use Rattle.rw_program.specs.Modules.{TypedModule}
 use Rattle.rw_program.specs.Programs.{Program}
 use Rattle.rw_program.specs.Linking.{program_of}

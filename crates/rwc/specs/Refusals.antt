@@ -1,9 +1,9 @@
 -- How a refused module is told: its first violated rule and the place of it; this project's own.
 use Rattle.std.specs.Prelude.{ℕ, List, [], ◌∷◌, ◌++◌, codes, decimal}
-use Rattle.rich_meaning.specs.declared.notes.Place.{Place}
-use Rattle.rich_meaning.specs.declared.notes.Place.TheVariants.{FuncType, FuncAt, GlobalType, GlobalAt, ImportType, ExportAt}
-use Rattle.rich_meaning.specs.declared.rules.Rule.{Rule}
-use Rattle.rich_meaning.specs.declared.rules.Rule.TheVariants as rule
+use Rattle.rich_typing.specs.declared.notes.Place.{Place}
+use Rattle.rich_typing.specs.declared.notes.Place.TheVariants.{FuncType, FuncAt, GlobalType, GlobalAt, ImportType, ExportAt}
+use Rattle.rich_typing.specs.declared.rules.Rule.{Rule}
+use Rattle.rich_typing.specs.declared.rules.Rule.TheVariants as rule
 
 -- the names of the rules
 abbrev pub rule_name : Rule → List ℕ

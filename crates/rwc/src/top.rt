@@ -1,7 +1,7 @@
 // The top call: all that the program does.
 ghost use Rattle.std.specs.Prelude.{◌≡◌, ◌≢◌, ◌≤◌, ◌⊎◌, ℕ, List, [], ◌∷◌, Some, None, IsErr, string_bytes, map, length};
-ghost use Rattle.rich_meaning.specs.declared.notes.Note.{Note};
-ghost use Rattle.rich_meaning.specs.Derivations.{IsTyped};
+ghost use Rattle.rich_typing.specs.declared.notes.Note.{Note};
+ghost use Rattle.rich_typing.specs.Derivations.{IsTyped};
 ghost use Rattle.rw_io.specs.Counts.{Rose};
 ghost use Rattle.wasm_ast.specs.declared.modules.WModule.{WModule};
 ghost use Rattle.wasm_grammar.specs.GrammarModules.{SpellsModule};

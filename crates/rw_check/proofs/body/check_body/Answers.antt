@@ -1,8 +1,8 @@
 -- Each instruction adds one step and one note to the derivation, or breaks its rule.
 use Rattle.std.proofs.Common.{arith, refl, []}
 use Rattle.rw_types.specs.LoneMain.{IsPlain}
-use Rattle.rich_meaning.specs.Derivations.{Derives, done}
-use Rattle.rich_meaning.specs.Table.{i64s}
+use Rattle.rich_typing.specs.Derivations.{Derives, done}
+use Rattle.rich_typing.specs.Table.{i64s}
 use Rattle.rw_check.proofs.Counted.{derives_more, derives_whole, breaks_at, breaks_at_end, tells_body}
 use Rattle.rw_check.proofs.PlainLists.{plain_at}
 use Rattle.rw_check.proofs.body.check_body.Goals as goal

@@ -1,6 +1,6 @@
 use Rattle.std.proofs.Common.{take, ◌≤◌, []}
-use Rattle.rich_meaning.specs.Derivations.{Derives}
-use Rattle.rich_meaning.specs.Table.{i64s}
+use Rattle.rich_typing.specs.Derivations.{Derives}
+use Rattle.rich_typing.specs.Table.{i64s}
 use Rattle.rw_check.proofs.body.check_body.Given as goal
 
 abbrev pub invariant-loop-at : goal.invariant-loop-at

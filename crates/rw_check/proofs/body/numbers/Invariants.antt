@@ -1,5 +1,5 @@
 use Rattle.std.proofs.Common.{◌≡◌}
-use Rattle.rich_meaning.specs.Table.{i64s}
+use Rattle.rich_typing.specs.Table.{i64s}
 use Rattle.rw_check.proofs.body.numbers.Given as goal
 
 abbrev pub invariant-loop : goal.invariant-loop

@@ -1,7 +1,7 @@
 -- A body's answer is the module's.
 use Rattle.std.proofs.Common.{rules, refl}
 use Rattle.std.proofs.lemmas.Result.{err_from_is_err_and}
-use Rattle.rich_meaning.specs.Derivations.{IsTyped}
+use Rattle.rich_typing.specs.Derivations.{IsTyped}
 use Rattle.rw_check.specs.Answers.{TellsBody}
 use Rattle.rw_check.proofs.Refusals.{tells_first, refused_not_typed, refused_as, typed_as, typed_not_refused}
 use Rattle.rw_check.proofs.modules.check.Goals as goal
