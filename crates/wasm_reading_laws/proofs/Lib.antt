@@ -4,6 +4,7 @@ pub mod Loops
 pub mod Rows
 pub mod Slots
 pub mod Modules
+pub mod OneModule
 pub mod FaultBounds
 pub mod FaultsOfEntries
 pub mod Faults

@@ -1,6 +1,6 @@
 // Laws of reading: the reading of a module is the grammar.
 
-ghost use Rattle.wasm_reading_laws.specs.ModulesRead.{CanonicalBytesAreRead, FaultIsInBytes, ModuleOrFault, NeverBoth, NeverOfMemory, OneFirstFault, ReadIsSpelled, SpelledIsRead, TruncatedAtTheEnd, TruncatedIsUndecided};
+ghost use Rattle.wasm_reading_laws.specs.ModulesRead.{BytesSpellOneModule, CanonicalBytesAreRead, CanonicalBytesSpellOnly, FaultIsInBytes, ModuleOrFault, NeverBoth, NeverOfMemory, OneFirstFault, ReadIsSpelled, SpelledIsRead, TruncatedAtTheEnd, TruncatedIsUndecided};
 ghost use Rattle.wasm_reading_laws.specs.WorkedModulesRead.{FullModuleIsRead, PaddedModuleIsRead};
 
 /// A law: what is read from bytes is the module that they spell, and a module that bytes spell is read from them
@@ -8,6 +8,13 @@ ghost use Rattle.wasm_reading_laws.specs.WorkedModulesRead.{FullModuleIsRead, Pa
 pub fn reading_is_the_grammar()
     ensures read { ReadIsSpelled }
     ensures spelled { SpelledIsRead }
+{}
+
+/// A law: bytes spell one module at most, in whatever way they are taken apart. So the canonical bytes of a module of
+/// the profile, each of whose sections has a content of fewer than 2^32 bytes, spell that module and no other.
+pub fn bytes_spell_one_module()
+    ensures one { BytesSpellOneModule }
+    ensures canonical { CanonicalBytesSpellOnly }
 {}
 
 /// A law: bytes spell a module, or have a first fault, and never both; they have one first fault at most, at one
