@@ -7,4 +7,6 @@ pub mod Modules
 pub mod OneModule
 pub mod FaultBounds
 pub mod FaultsOfEntries
+pub mod FaultsOfSections
 pub mod Faults
+pub mod FirstFaults
