@@ -1,6 +1,6 @@
 -- No reader of types, instructions, entries and contents faults for want of memory, or past the end of its input, or for
 -- want of a byte before that end; and what it reads it reads where more bytes follow.
-use Rattle.std.proofs.Common.{◌≡◌, ℕ, zero, suc, ◌+◌, ◌<◌, ◌≤◌, Bool, true, false, List, [], ◌∷◌, ◌++◌, length, length-append, refl, subst, arith, inl, inr, Option, None, Some, Result, Err}
+use Rattle.std.proofs.Common.{◌≡◌, ℕ, zero, suc, ◌+◌, ◌<◌, ◌≤◌, Bool, true, false, List, [], ◌∷◌, ◌++◌, length, length-append, refl, subst, arith, inl, inr, Option, None, Some, Err}
 use Rattle.std.specs.Prelude.{◌==◌, ◌||◌, nat_lt, nat_le, if◌then◌else◌}
 use Rattle.wasm_ast.specs.declared.types.ValTy.{ValTy}
 use Rattle.wasm_ast.specs.declared.types.ValTy.TheVariants.{I32, I64}
@@ -16,9 +16,8 @@ use Rattle.wasm_grammar.specs.Nesting.{nesting_limit}
 use Rattle.wasm_grammar.specs.Profile.{local_limit}
 use Rattle.wasm_reading.specs.declared.kinds.ImmediateKind.{ImmediateKind}
 use Rattle.wasm_reading.specs.declared.kinds.ImmediateKind.TheVariants as kinds
-use Rattle.wasm_reading.specs.declared.fault.DecodeError.{DecodeError}
 use Rattle.wasm_reading.specs.declared.fault.DecodeFault.TheVariants.{Truncated, BadTag, BadLength, FloatOutside, LimitOutside, CountMismatch, BadMagic, BadVersion}
-use Rattle.wasm_reading.specs.Readers.{Input, Reader, and_then, ◌>>=◌, give, fail, is_at_end, first_byte, each_at}
+use Rattle.wasm_reading.specs.Readers.{Reader, and_then, ◌>>=◌, give, fail, is_at_end, first_byte, each_at}
 use Rattle.wasm_reading.specs.ReadTypes.{value_type_of, block_type_of, flag_of, at_most, results_at, func_type_at, maximum_at, limits_at, memory_at, table_at}
 use Rattle.wasm_reading.specs.ReadInstructions.{is_from_to, is_float_opcode, opcode_fault, immediate_at, made, plain_at, nested_at, other_arm_at, if_at, instruction_from, listed_from, instructions_at, expression_at, constant_at, constant_kind_of, kind_of, Listed}
 use Rattle.wasm_reading.specs.ReadValues.{tag_at, u32_at, vector_at}

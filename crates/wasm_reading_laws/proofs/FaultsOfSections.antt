@@ -1,6 +1,6 @@
 -- Sections are read to the end of the input: a module that is read may be none where more bytes follow, and where the
 -- codes of functions are wanting at the end they may follow. Any other fault is the same where more bytes follow.
-use Rattle.std.proofs.Common.{◌≡◌, ℕ, zero, suc, ◌+◌, ◌≤◌, Bool, true, false, List, [], ◌∷◌, ◌++◌, length, length-append, refl, sym, ap, subst, arith, inl, inr, Option, None, Result, Ok, Err}
+use Rattle.std.proofs.Common.{◌≡◌, ℕ, zero, suc, ◌+◌, ◌≤◌, Bool, true, false, List, [], ◌∷◌, ◌++◌, length, length-append, refl, sym, ap, subst, arith, inl, inr, Option, Result, Ok, Err}
 use Rattle.std.specs.Prelude.{◌⊎◌, ◌==◌, nat_lt, nat_le, if◌then◌else◌}
 use Rattle.std.proofs.lemmas.Bool.{ne_eqb}
 use Rattle.wasm_ast.specs.declared.modules.WModule.{WModule}
@@ -10,8 +10,7 @@ use Rattle.wasm_reading.specs.declared.fault.DecodeError.{DecodeError}
 use Rattle.wasm_reading.specs.declared.fault.DecodeFault.{DecodeFault}
 use Rattle.wasm_reading.specs.declared.fault.DecodeFault.TheVariants.{BadTag, BadOrder, BadLength, Truncated, CountMismatch}
 use Rattle.wasm_reading.specs.Readers.{Input, Reader, and_then, ◌>>=◌, give, fail, here, is_at_end, byte_at}
-use Rattle.wasm_reading.specs.ReadValues.{sized_at}
-use Rattle.wasm_reading.specs.ReadModules.{content_at, custom_at, module_at_end, is_empty, section_from, sections_at, preamble_at, module_at}
+use Rattle.wasm_reading.specs.ReadModules.{custom_at, module_at_end, is_empty, section_from, sections_at, preamble_at, module_at}
 use Rattle.wasm_reading.proofs.Shrinking.{Shrinks, byte_less, shrinks_give, shrinks_fail, shrinks_then, shrinks_here, shrinks_byte, shrinks_if, shrinks_sized}
 use Rattle.wasm_reading.proofs.ShrinkingEntries.{shrinks_content, shrinks_custom}
 use Rattle.wasm_reading.proofs.Fuel.{sections_need_no_more}
