@@ -5,10 +5,10 @@ use Rattle.std.specs.declared.option.Option.{Option}
 use Rattle.std.specs.declared.result.Result.{Result}
 use Rattle.wasm_ast.specs.declared.modules.WModule.{WModule}
 use Rattle.wasm_grammar.specs.CanonicalModules.{module_bytes}
-use Rattle.wasm_spelling.proofs.ModulesAgree.{bytes_spell_one_module}
 use Rattle.wasm_encode.specs.Contents.{IsFirstTooLong}
 use Rattle.wasm_reading.specs.declared.fault.DecodeError.{DecodeError}
 use Rattle.wasm_reading_laws.proofs.Faults.{never_both, one_first_fault}
+use Rattle.wasm_reading_laws.proofs.OneModule.{bytes_spell_one_module}
 use Rattle.rw_types.specs.declared.modules.Module.{Module}
 use Rattle.rw_text.proofs.Whole.{one_module}
 use Rattle.rich_typing.specs.declared.notes.Note.{Note}

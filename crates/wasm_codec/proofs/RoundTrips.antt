@@ -8,9 +8,9 @@ use Rattle.wasm_grammar.specs.CanonicalModules.{HasShortContents, content_of, mo
 use Rattle.wasm_grammar.specs.GrammarModules.{SpellsModule}
 use Rattle.wasm_grammar.specs.Profile.{IsInProfile}
 use Rattle.wasm_spelling.proofs.SpelledModules.{canonical_bytes_spell}
-use Rattle.wasm_spelling.proofs.ModulesAgree.{bytes_spell_one_module}
 use Rattle.wasm_spelling.proofs.ShortestModules.{spelled_contents_are_short}
 use Rattle.wasm_reading.specs.declared.fault.DecodeError.{DecodeError}
+use Rattle.wasm_reading_laws.proofs.OneModule.{bytes_spell_one_module}
 use Rattle.wasm_encode.specs.Contents.{IsFirstTooLong}
 use Rattle.wasm_encode.specs.declared.error.EncodeError.{EncodeError}
 use Rattle.wasm_codec.specs.declared.error.CodecError.{CodecError}

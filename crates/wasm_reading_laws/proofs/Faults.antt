@@ -2,16 +2,14 @@
 use Rattle.std.proofs.Common.{◌≡◌, ℕ, List, [], ◌∷◌, ◌++◌, length, length-append, refl, subst, arith, inl, inr, None, Result, Ok, Err}
 use Rattle.std.specs.Prelude.{◌⊎◌}
 use Rattle.wasm_ast.specs.declared.modules.WModule.{WModule}
-use Rattle.wasm_grammar.specs.CanonicalModules.{preamble}
 use Rattle.wasm_grammar.specs.GrammarModules.{SpellsModule}
 use Rattle.wasm_reading.specs.declared.fault.DecodeError.{DecodeError}
 use Rattle.wasm_reading.specs.Readers.{Input}
-use Rattle.wasm_grammar.specs.WorkedModules.{empty_module}
 use Rattle.wasm_reading.specs.ReadModules.{module_at, reading_of, without_rest}
 use Rattle.wasm_reading_laws.specs.ModulesRead.{HasFirstFault, ModuleOrFault, NeverBoth, OneFirstFault, NeverOfMemory, FaultIsInBytes, TruncatedAtTheEnd, TruncatedIsUndecided}
 use Rattle.wasm_reading_laws.proofs.Modules.{read_is_spelled, spelled_is_read}
-use Rattle.wasm_reading_laws.proofs.FaultBounds.{IsPlaced, IsInBounds, InBounds, bounds_then}
-use Rattle.wasm_reading_laws.proofs.FaultsOfEntries.{bounds_sections, bounds_preamble}
+use Rattle.wasm_reading_laws.proofs.FaultBounds.{IsPlaced, IsInBounds}
+use Rattle.wasm_reading_laws.proofs.FaultsOfSections.{bounds_module}
 
 read_or_fault : (r : Result WModule DecodeError) → ((m : WModule) × (r ≡ Ok m)) ⊎ ((e : DecodeError) × (r ≡ Err e))
 read_or_fault (Ok m) = inl (m, refl)
@@ -36,9 +34,6 @@ one_fault r e e' p q = cc
 pub one_first_fault : OneFirstFault
 one_first_fault bytes e e' f g = one_fault (reading_of bytes) e e' f g
 
-bounds_module : (total : ℕ) → InBounds total module_at
-bounds_module total = bounds_then (bounds_preamble 0 preamble) (λ _. record { holds = λ input s. (bounds_sections (length input.rest) 0 empty_module).holds input s })
-
 fault_in : (total : ℕ) (r : Result (WModule × Input) DecodeError) (e : DecodeError) → IsInBounds total r → without_rest r ≡ Err e → IsPlaced total e
 fault_in total (Ok done) e h f = absurd (cc)
 fault_in total (Err fault) e h f =
@@ -48,7 +43,7 @@ fault_in total (Err fault) e h f =
 first_fault_in : (bytes : List ℕ) (e : DecodeError) → HasFirstFault bytes e → IsPlaced (length bytes) e
 first_fault_in bytes e f =
     let input : Input = record { at = 0; end = None; rest = bytes } in
-    fault_in (length bytes) (module_at input) e ((bounds_module (length bytes)).holds input (omega arith)) f
+    fault_in (length bytes) (module_at input) e ((bounds_module 0 (length bytes)).holds input (omega arith)) f
 
 pub never_of_memory : NeverOfMemory
 never_of_memory bytes e f = (first_fault_in bytes e f).0

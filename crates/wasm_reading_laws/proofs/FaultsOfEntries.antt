@@ -1,6 +1,6 @@
--- No reader of types, instructions, entries and sections faults for want of memory, or past the end of its input, or for
--- want of a byte before that end.
-use Rattle.std.proofs.Common.{ℕ, zero, suc, ◌+◌, ◌≤◌, Bool, true, false, List, [], ◌∷◌, length, refl, Option, None, Some, Result}
+-- No reader of types, instructions, entries and contents faults for want of memory, or past the end of its input, or for
+-- want of a byte before that end; and what it reads it reads where more bytes follow.
+use Rattle.std.proofs.Common.{◌≡◌, ℕ, zero, suc, ◌+◌, ◌<◌, ◌≤◌, Bool, true, false, List, [], ◌∷◌, ◌++◌, length, length-append, refl, subst, arith, inl, inr, Option, None, Some, Err}
 use Rattle.std.specs.Prelude.{◌==◌, ◌||◌, nat_lt, nat_le, if◌then◌else◌}
 use Rattle.wasm_ast.specs.declared.types.ValTy.{ValTy}
 use Rattle.wasm_ast.specs.declared.types.ValTy.TheVariants.{I32, I64}
@@ -16,14 +16,14 @@ use Rattle.wasm_grammar.specs.Nesting.{nesting_limit}
 use Rattle.wasm_grammar.specs.Profile.{local_limit}
 use Rattle.wasm_reading.specs.declared.kinds.ImmediateKind.{ImmediateKind}
 use Rattle.wasm_reading.specs.declared.kinds.ImmediateKind.TheVariants as kinds
-use Rattle.wasm_reading.specs.declared.fault.DecodeError.{DecodeError}
-use Rattle.wasm_reading.specs.declared.fault.DecodeFault.TheVariants.{BadTag, BadOrder, FloatOutside, LimitOutside, CountMismatch, BadMagic, BadVersion}
-use Rattle.wasm_reading.specs.Readers.{Input, Reader, ◌>>=◌, give}
+use Rattle.wasm_reading.specs.declared.fault.DecodeFault.TheVariants.{Truncated, BadTag, BadLength, FloatOutside, LimitOutside, CountMismatch, BadMagic, BadVersion}
+use Rattle.wasm_reading.specs.Readers.{Reader, and_then, ◌>>=◌, give, fail, is_at_end, first_byte, each_at}
 use Rattle.wasm_reading.specs.ReadTypes.{value_type_of, block_type_of, flag_of, at_most, results_at, func_type_at, maximum_at, limits_at, memory_at, table_at}
 use Rattle.wasm_reading.specs.ReadInstructions.{is_from_to, is_float_opcode, opcode_fault, immediate_at, made, plain_at, nested_at, other_arm_at, if_at, instruction_from, listed_from, instructions_at, expression_at, constant_at, constant_kind_of, kind_of, Listed}
-use Rattle.wasm_reading.specs.ReadValues.{tag_at, vector_at}
-use Rattle.wasm_reading.specs.ReadModules.{import_kind_at, external_kind_of, import_at, global_at, export_at, element_at, segment_at, local_runs_at, code_at, codes_at, content_at, custom_at, module_at_end, is_empty, section_from, sections_at, preamble_at}
-use Rattle.wasm_reading_laws.proofs.FaultBounds.{IsOfBytes, IsInBounds, InBounds, IsKnown, known_value, known_fault, known_if, bounds_give, bounds_fail, bounds_then, bounds_here, bounds_if, bounds_byte, bounds_each, bounds_u32, bounds_s32, bounds_s64, bounds_tag, bounds_only, bounds_vector, bounds_name, bounds_sized}
+use Rattle.wasm_reading.specs.ReadValues.{tag_at, u32_at, vector_at}
+use Rattle.wasm_reading.specs.ReadModules.{import_kind_at, external_kind_of, import_at, global_at, export_at, element_at, segment_at, local_runs_at, code_at, codes_at, content_at, custom_at, preamble_at}
+use Rattle.wasm_reading.proofs.Fuel.{instructions_need_no_more}
+use Rattle.wasm_reading_laws.proofs.FaultBounds.{IsOfBytes, placed, IsInBounds, longer, IsKept, InBounds, fault_settled, IsKnown, known_value, known_fault, known_if, bounds_give, bounds_fail, bounds_then, bounds_here, bounds_if, bounds_byte, bounds_each, bounds_u32, bounds_s32, bounds_s64, bounds_tag, bounds_only, bounds_vector, bounds_name, bounds_sized}
 
 value_type_known : (b : ℕ) → IsKnown (value_type_of b)
 value_type_known b =
@@ -47,9 +47,12 @@ opcode_fault_of_bytes : (t : Bool) → IsOfBytes (if t then FloatOutside else Ba
 opcode_fault_of_bytes true = refl
 opcode_fault_of_bytes false = refl
 
-either_in_bounds : {A : Type 0} (total : ℕ) (t : Bool) (x y : Result (A × Input) DecodeError) → IsInBounds total x → IsInBounds total y → IsInBounds total (if t then x else y)
-either_in_bounds total true x y h k = h
-either_in_bounds total false x y h k = k
+-- what reads a byte first, where none follows, and where more bytes do
+none_kept : {A B : Type 0} (total : ℕ) (t : Bool) (at : ℕ) (end : Option ℕ) (more : List ℕ) (f : ℕ → Reader A) (g : A → Reader B) →
+    IsKept total more (and_then (and_then (if t then Err (record { at = at; fault = BadLength }) else Err (record { at = at; fault = Truncated })) f) g)
+    (and_then (and_then (if t then Err (record { at = at; fault = BadLength }) else first_byte at end more) f) g)
+none_kept total true at end more f g = fault_settled total BadLength at _ refl refl
+none_kept total false at end more f g = inl refl
 
 module _ {total : ℕ} where
   bounds_value_type : InBounds total (tag_at value_type_of)
@@ -131,7 +134,15 @@ module _ {total : ℕ} where
       bounds_here (λ place h. bounds_then bounds_byte (λ opcode. bounds_listed (bounds_instructions fuel) with_else depth place opcode h))
 
   bounds_expression : InBounds total expression_at
-  bounds_expression = record { holds = λ input s. (bounds_then (bounds_instructions (length input.rest) false 0) (λ xs. bounds_give xs.0)).holds input s }
+  bounds_expression = record {
+    holds = λ input s. (bounds_then (bounds_instructions (length input.rest) false 0) (λ xs. bounds_give xs.0)).holds input s;
+    kept = λ input more s.
+        let fuel = length (input.rest ++ more) in
+        let enough : length input.rest ≤ fuel = omega (arith, length-append input.rest more) in
+        subst (λ r. IsKept total more (and_then r (λ xs. give xs.0)) (and_then (instructions_at fuel false 0 (longer input more)) (λ xs. give xs.0)))
+        (instructions_need_no_more fuel false 0 input enough)
+        ((bounds_then (bounds_instructions fuel false 0) (λ xs. bounds_give xs.0)).kept input more s);
+  }
 
   bounds_import_kind : (kind : ExportKind) → InBounds total (import_kind_at kind)
   bounds_import_kind externals.Func = bounds_then bounds_u32 (λ n. bounds_give _)
@@ -165,39 +176,45 @@ module _ {total : ℕ} where
   bounds_code : InBounds total code_at
   bounds_code = bounds_sized (bounds_then bounds_u32 (λ n. bounds_then (bounds_local_runs 0 n) (λ locals. bounds_then bounds_expression (λ body. bounds_give _))))
 
+  -- another count than that of the functions stands before the end of the bytes
+  bounds_mismatch : {A : Type 0} (place : ℕ) → place < total → InBounds total (fail {A = A} CountMismatch place)
+  bounds_mismatch place h = record { holds = λ input s. ((λ e. cc), omega arith, λ e. absurd (cc)); kept = λ input more s. inr (refl, λ e. h) }
+
+  bounds_counted : (functions place : ℕ) → place < total → InBounds total (do n ← u32_at; if n == functions then each_at code_at n else fail CountMismatch place)
+  bounds_counted functions place h = bounds_then bounds_u32 (λ n. bounds_if (n == functions) (bounds_each bounds_code n) (bounds_mismatch place h))
+
+  -- what reads a byte first, where none follows
+  none_holds : {A B : Type 0} (t : Bool) (at : ℕ) (f : ℕ → Reader A) (g : A → Reader B) → at ≡ total →
+      IsInBounds total (and_then (and_then (if t then Err (record { at = at; fault = BadLength }) else Err (record { at = at; fault = Truncated })) f) g)
+  none_holds true at f g h = placed total BadLength at refl (omega arith)
+  none_holds false at f g h = ((λ e. cc), omega arith, λ e. h)
+
+  codes_hold : (functions at : ℕ) (end : Option ℕ) (rest : List ℕ) → at + length rest ≡ total → IsInBounds total (codes_at functions (record { at = at; end = end; rest = rest }))
+  codes_hold functions at end [] s = none_holds (is_at_end (record { at = at; end = end; rest = [] })) at _ _ (omega arith)
+  codes_hold functions at end (b ∷ rest) s = (bounds_counted functions at (omega arith)).holds (record { at = at; end = end; rest = b ∷ rest }) s
+
+  codes_kept : (functions at : ℕ) (end : Option ℕ) (rest more : List ℕ) → at + length rest ≡ total →
+      IsKept total more (codes_at functions (record { at = at; end = end; rest = rest })) (codes_at functions (record { at = at; end = end; rest = rest ++ more }))
+  codes_kept functions at end [] more s = none_kept total (is_at_end (record { at = at; end = end; rest = [] })) at end more _ _
+  codes_kept functions at end (b ∷ rest) more s = (bounds_counted functions at (omega arith)).kept (record { at = at; end = end; rest = b ∷ rest }) more s
+
   bounds_codes : (functions : ℕ) → InBounds total (codes_at functions)
-  bounds_codes functions = bounds_here (λ place h. bounds_then bounds_u32 (λ n. bounds_if (n == functions) (bounds_each bounds_code n) (bounds_fail CountMismatch place refl h)))
+  bounds_codes functions = record {
+    holds = λ input s. codes_hold functions input.at input.end input.rest s;
+    kept = λ input more s. codes_kept functions input.at input.end input.rest more s;
+  }
 
   entries : {A : Type 0} {item : Reader A} (put : List A → WModule) → InBounds total item → InBounds total (do xs ← vector_at item; give (put xs))
   entries put h = bounds_then (bounds_vector h) (λ xs. bounds_give _)
 
-  bounds_content : (id : ℕ) (m : WModule) → InBounds total (content_at id m)
+  pub bounds_content : (id : ℕ) (m : WModule) → InBounds total (content_at id m)
   bounds_content id m =
       bounds_if _ (entries _ bounds_func_type) (bounds_if _ (entries _ bounds_import) (bounds_if _ (entries _ bounds_u32) (bounds_if _ (entries _ bounds_table)
       (bounds_if _ (entries _ bounds_memory) (bounds_if _ (entries _ bounds_global) (bounds_if _ (entries _ bounds_export) (bounds_if _ (bounds_then bounds_u32 (λ n. bounds_give _))
       (bounds_if _ (entries _ bounds_element) (bounds_if _ (bounds_then (bounds_codes _) (λ xs. bounds_give _)) (entries _ bounds_segment))))))))))
 
-  bounds_custom : InBounds total custom_at
+  pub bounds_custom : InBounds total custom_at
   bounds_custom = bounds_then bounds_u32 (λ size. bounds_each bounds_byte size)
-
-  bounds_end : (m : WModule) → InBounds total (module_at_end m)
-  bounds_end m = bounds_here (λ place h. bounds_if (length m.codes == length m.funcs) (bounds_give m) (bounds_fail CountMismatch place refl h))
-
-  bounds_section : (more : ℕ → WModule → Reader WModule) → ((last : ℕ) (m : WModule) → InBounds total (more last m)) → (last : ℕ) (m : WModule) → InBounds total (section_from more last m)
-  bounds_section more k last m =
-      bounds_here (λ place h. bounds_then bounds_byte (λ id.
-      bounds_if (id == 0) (bounds_then bounds_custom (λ _. k last m))
-      (bounds_if (nat_lt 11 id) (bounds_fail BadTag place refl h) (bounds_if (nat_le id last) (bounds_fail BadOrder place refl h)
-      (bounds_then (bounds_sized (bounds_content id m)) (λ m'. k id m'))))))
-
-  pub bounds_sections : (fuel last : ℕ) (m : WModule) → InBounds total (sections_at fuel last m)
-  bounds_sections zero last m = bounds_end m
-  bounds_sections (suc fuel) last m = record {
-    holds = λ input s.
-        either_in_bounds total (is_empty input) (module_at_end m input) (section_from (sections_at fuel) last m input)
-        ((bounds_end m).holds input s)
-        ((bounds_section (sections_at fuel) (λ i n. bounds_sections fuel i n) last m).holds input s);
-  }
 
   pub bounds_preamble : (k : ℕ) (wanted : List ℕ) → InBounds total (preamble_at k wanted)
   bounds_preamble k [] = bounds_give tt

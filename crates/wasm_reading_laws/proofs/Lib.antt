@@ -4,6 +4,9 @@ pub mod Loops
 pub mod Rows
 pub mod Slots
 pub mod Modules
+pub mod OneModule
 pub mod FaultBounds
 pub mod FaultsOfEntries
+pub mod FaultsOfSections
 pub mod Faults
+pub mod FirstFaults

@@ -1,2 +1,4 @@
 pub mod ModulesRead
+pub mod FirstFaults
 pub mod WorkedModulesRead
+pub mod WorkedFronts

@@ -54,3 +54,11 @@ TruncatedIsUndecided = (bytes : List ℕ) (e : DecodeError) → HasFirstFault by
 -- the canonical bytes of a module are read as that module
 abbrev pub CanonicalBytesAreRead : Type 0
 CanonicalBytesAreRead = (m : WModule) → IsInProfile m → HasShortContents m → reading_of (module_bytes m) ≡ Ok m
+
+-- bytes spell one module at most
+abbrev pub BytesSpellOneModule : Type 0
+BytesSpellOneModule = (bytes : List ℕ) (m k : WModule) → SpellsModule bytes m → SpellsModule bytes k → m ≡ k
+
+-- the canonical bytes of a module spell no other one
+abbrev pub CanonicalBytesSpellOnly : Type 0
+CanonicalBytesSpellOnly = (m k : WModule) → IsInProfile m → HasShortContents m → SpellsModule (module_bytes m) k → k ≡ m

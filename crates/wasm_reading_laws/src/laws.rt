@@ -1,6 +1,8 @@
 // Laws of reading: the reading of a module is the grammar.
 
-ghost use Rattle.wasm_reading_laws.specs.ModulesRead.{CanonicalBytesAreRead, FaultIsInBytes, ModuleOrFault, NeverBoth, NeverOfMemory, OneFirstFault, ReadIsSpelled, SpelledIsRead, TruncatedAtTheEnd, TruncatedIsUndecided};
+ghost use Rattle.wasm_reading_laws.specs.ModulesRead.{BytesSpellOneModule, CanonicalBytesAreRead, CanonicalBytesSpellOnly, FaultIsInBytes, ModuleOrFault, NeverBoth, NeverOfMemory, OneFirstFault, ReadIsSpelled, SpelledIsRead, TruncatedAtTheEnd, TruncatedIsUndecided};
+ghost use Rattle.wasm_reading_laws.specs.FirstFaults.{DecidedByLeastFront, EarlyOrSettled, OneLeastFront, UndecidedIsOpen};
+ghost use Rattle.wasm_reading_laws.specs.WorkedFronts.{ContentStopsFront, CountFront};
 ghost use Rattle.wasm_reading_laws.specs.WorkedModulesRead.{FullModuleIsRead, PaddedModuleIsRead};
 
 /// A law: what is read from bytes is the module that they spell, and a module that bytes spell is read from them
@@ -8,6 +10,13 @@ ghost use Rattle.wasm_reading_laws.specs.WorkedModulesRead.{FullModuleIsRead, Pa
 pub fn reading_is_the_grammar()
     ensures read { ReadIsSpelled }
     ensures spelled { SpelledIsRead }
+{}
+
+/// A law: bytes spell one module at most, in whatever way they are taken apart. So the canonical bytes of a module of
+/// the profile, each of whose sections has a content of fewer than 2^32 bytes, spell that module and no other.
+pub fn bytes_spell_one_module()
+    ensures one { BytesSpellOneModule }
+    ensures canonical { CanonicalBytesSpellOnly }
 {}
 
 /// A law: bytes spell a module, or have a first fault, and never both; they have one first fault at most, at one
@@ -25,6 +34,24 @@ pub fn a_module_or_one_first_fault()
 pub fn truncated_only_at_the_end()
     ensures place { TruncatedAtTheEnd }
     ensures undecided { TruncatedIsUndecided }
+{}
+
+/// A law: a first fault of bytes is that of every continuation of them, or the bytes end too early, and never both. They end
+/// too early where the fault stands at their end and is `Truncated` or `CountMismatch`. Any other fault is decided by one
+/// least front of the bytes: every continuation of that front has it, and each shorter front is a module or ends too
+/// early. This project's own.
+pub fn first_fault_at_the_least_front()
+    ensures settled { EarlyOrSettled }
+    ensures undecided { UndecidedIsOpen }
+    ensures front { DecidedByLeastFront }
+    ensures one { OneLeastFront }
+{}
+
+/// Two inputs that are written out, with the first fault of each of their fronts: a section that declares more bytes than
+/// its content has, and a code section of another count than that of the functions.
+pub fn worked_fronts()
+    ensures content_stops { ContentStopsFront }
+    ensures count { CountFront }
 {}
 
 /// A law: a module of the profile, each of whose sections has a content of fewer than 2^32 bytes, is read from its

@@ -1,13 +1,6 @@
 pub mod SpelledValues
 pub mod SpelledInstructions
 pub mod SpelledModules
-pub mod Agreement
-pub mod TypesAgree
-pub mod ImmediatesAgree
-pub mod InstructionsAgree
-pub mod EntriesAgree
-pub mod SectionsAgree
-pub mod ModulesAgree
 pub mod LeastOrLonger
 pub mod Shortest
 pub mod ShortestInstructions

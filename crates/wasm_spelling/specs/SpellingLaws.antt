@@ -1,28 +1,13 @@
 -- Laws of the relation between modules and the bytes that spell them; this project's own words.
-use Rattle.std.specs.Prelude.{◌≡◌, ℕ, ◌<◌, List, ◌++◌, length, ◌⊎◌}
-use Rattle.wasm_ast.specs.declared.instructions.WInstr.{WInstr}
+use Rattle.std.specs.Prelude.{◌≡◌, ℕ, ◌<◌, List, length, ◌⊎◌}
 use Rattle.wasm_ast.specs.declared.modules.WModule.{WModule}
 use Rattle.wasm_grammar.specs.CanonicalModules.{HasShortContents, module_bytes}
 use Rattle.wasm_grammar.specs.Profile.{IsInProfile}
-use Rattle.wasm_grammar.specs.GrammarInstructions.{IsInstruction}
 use Rattle.wasm_grammar.specs.GrammarModules.{SpellsModule}
 
 -- the canonical bytes of a module spell it
 abbrev pub CanonicalBytesSpell : Type 0
 CanonicalBytesSpell = (m : WModule) → IsInProfile m → HasShortContents m → SpellsModule (module_bytes m) m
-
--- no spelling of an instruction begins another one, and each spells one instruction
-abbrev pub InstructionsHaveOneForm : Type 0
-InstructionsHaveOneForm =
-    (w z : WInstr) (a b u v : List ℕ) → IsInstruction w a → IsInstruction z b → a ++ u ≡ b ++ v → (a ≡ b) × (w ≡ z)
-
--- bytes spell one module at most
-abbrev pub BytesSpellOneModule : Type 0
-BytesSpellOneModule = (bytes : List ℕ) (m k : WModule) → SpellsModule bytes m → SpellsModule bytes k → m ≡ k
-
--- the canonical bytes of a module spell no other one
-abbrev pub CanonicalBytesSpellOnly : Type 0
-CanonicalBytesSpellOnly = (m k : WModule) → IsInProfile m → HasShortContents m → SpellsModule (module_bytes m) k → k ≡ m
 
 -- the canonical bytes of a module are its shortest spelling: bytes that spell it are these, or there are more of them
 abbrev pub CanonicalBytesAreShortest : Type 0

@@ -1,5 +1,4 @@
-//! Laws of the binary format: the canonical bytes of a module spell it and are its shortest spelling, and bytes spell
-//! one module at most.
+//! Laws of the binary format: the canonical bytes of a module spell it and are its shortest spelling.
 #![tactic(auto)]
 
 ghost use Rattle.std.specs.Prelude.{◌≡◌};
@@ -8,23 +7,12 @@ ghost use Rattle.wasm_grammar.specs.GrammarModules.{SpellsModule};
 ghost use Rattle.wasm_grammar.specs.WorkedModules.{six_module, six_module_bytes};
 ghost use Rattle.wasm_spelling.specs.FullModule.{full_module, full_module_bytes};
 ghost use Rattle.wasm_spelling.specs.PaddedModule.{padded_module_bytes};
-ghost use Rattle.wasm_spelling.specs.SpellingLaws.{BytesSpellOneModule, CanonicalBytesAreShortest, CanonicalBytesSpell, CanonicalBytesSpellAgain, CanonicalBytesSpellOnly, InstructionsHaveOneForm, SpelledContentsAreShort};
+ghost use Rattle.wasm_spelling.specs.SpellingLaws.{CanonicalBytesAreShortest, CanonicalBytesSpell, CanonicalBytesSpellAgain, SpelledContentsAreShort};
 
 /// A law: the canonical bytes of a module of the profile, where each section's content has fewer than
-/// 2^32 bytes, spell that module and no other.
+/// 2^32 bytes, spell that module.
 pub fn canonical_bytes_spell()
-    ensures spell { CanonicalBytesSpell }
-    ensures only { CanonicalBytesSpellOnly }
-{}
-
-/// A law: no spelling of an instruction begins another one, and each spells one instruction.
-pub fn instructions_have_one_form()
-    ensures { InstructionsHaveOneForm }
-{}
-
-/// A law: bytes spell one module at most, in whatever way they are taken apart.
-pub fn bytes_spell_one_module()
-    ensures { BytesSpellOneModule }
+    ensures { CanonicalBytesSpell }
 {}
 
 /// A law: the canonical bytes of a module are its shortest spelling, and any other spelling has more bytes. A module
