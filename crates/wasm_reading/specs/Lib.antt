@@ -6,3 +6,4 @@ pub mod ReadModules
 pub mod WorkedReadings
 pub mod WorkedLimits
 pub mod Laws
+pub mod WorkedItems

@@ -1,4 +1,5 @@
 ghost use Rattle.wasm_reading.specs.Laws.{InstructionsNeedNoMore, SectionsNeedNoMore};
+ghost use Rattle.wasm_reading.specs.WorkedItems.{WorkedItems, WorkedImmediates, WorkedEntries};
 ghost use Rattle.wasm_reading.specs.WorkedLimits.{WorkedLimits, WorkedNesting, WorkedPreambles};
 ghost use Rattle.wasm_reading.specs.WorkedReadings.{TwoByteCount, LastByteTooGreat, IdDoesNotRise, FloatInABody, TooManyPages, CustomSectionTooLong, ContentStopsEarly};
 
@@ -11,6 +12,13 @@ pub fn worked_readings()
     ensures too_many_pages { TooManyPages }
     ensures custom_section_too_long { CustomSectionTooLong }
     ensures content_stops_early { ContentStopsEarly }
+{}
+
+/// Items, immediates and entries of the code section that are written out, and what reading them gives.
+pub fn worked_items()
+    ensures items { WorkedItems }
+    ensures immediates { WorkedImmediates }
+    ensures entries { WorkedEntries }
 {}
 
 /// Byte lists at the limits of the profile and one past them, and preambles that are not whole.

@@ -7,4 +7,4 @@ mod laws;
 
 pub use fault::{DecodeError, DecodeFault};
 pub use kinds::ImmediateKind;
-pub use laws::{bytes_bound_reading, worked_limits, worked_readings};
+pub use laws::{bytes_bound_reading, worked_items, worked_limits, worked_readings};
