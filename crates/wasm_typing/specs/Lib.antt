@@ -6,6 +6,7 @@ pub mod Places
 pub mod ByteOrder
 pub mod Violations
 pub mod Heights
+pub mod Points
 pub mod Fields
 pub mod Modules
 pub mod Rows

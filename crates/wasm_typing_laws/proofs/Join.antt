@@ -29,7 +29,7 @@ two_lists_end xs ys rest = append_assoc xs (Else ∷ (ys ++ End ∷ [])) rest �
 
 module _ (C : Context) where
   mutual
-    forth_one : (ls : Labels) (w : WInstr-F WInstr) (st to : List ValTy) → IsTyped C ls w st to → (o : Open (List ValTy)) (os : Stacks) → ls ≡ labels (o ∷ os) → (rest : List Token) (z : Stacks) → Leads C rest (put o to ∷ os) z →
+    pub forth_one : (ls : Labels) (w : WInstr-F WInstr) (st to : List ValTy) → IsTyped C ls w st to → (o : Open (List ValTy)) (os : Stacks) → ls ≡ labels (o ∷ os) → (rest : List Token) (z : Stacks) → Leads C rest (put o to ∷ os) z →
         Leads C (tokens_in tokens_of w ++ rest) (put o st ∷ os) z
     forth_one ls w st to (plain s e a) o os el rest z h =
         subst (λ (ts : List Token). Leads C (ts ++ rest) (put o st ∷ os) z) (sym (plain-tokens C ls s w e))
@@ -53,7 +53,7 @@ module _ (C : Context) where
         subst (λ (x : WInstr-F WInstr). Leads C (tokens_in tokens_of x ++ rest) (put o st ∷ os) z) (sym e)
         (fresh (FirstArm t) ∷ put o below ∷ os, (below, eb, refl), subst (λ (ts : List Token). Leads C ts (fresh (FirstArm t) ∷ put o below ∷ os) z) (sym (two_lists_end (flat_map tokens_of xs) (flat_map tokens_of ys) rest)) i)
 
-    forth_all : (ls : Labels) (ws : List WInstr) (st to : List ValTy) → AreTyped C ls ws st to → (o : Open (List ValTy)) (os : Stacks) → ls ≡ labels (o ∷ os) → (rest : List Token) (z : Stacks) → Leads C rest (put o to ∷ os) z →
+    pub forth_all : (ls : Labels) (ws : List WInstr) (st to : List ValTy) → AreTyped C ls ws st to → (o : Open (List ValTy)) (os : Stacks) → ls ≡ labels (o ∷ os) → (rest : List Token) (z : Stacks) → Leads C rest (put o to ∷ os) z →
         Leads C (flat_map tokens_of ws ++ rest) (put o st ∷ os) z
     forth_all ls ws st to (none e q) o os el rest z h =
         subst (λ (xs : List WInstr). Leads C (flat_map tokens_of xs ++ rest) (put o st ∷ os) z) (sym e) (subst (λ (x : List ValTy). Leads C rest (put o x ∷ os) z) (sym q) h)

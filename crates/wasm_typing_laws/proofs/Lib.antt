@@ -8,3 +8,6 @@ pub mod OneRule
 pub mod Balance
 pub mod Modules
 pub mod WorkedBodies
+pub mod LiveSignatures
+pub mod HeightBounds
+pub mod HeightPoints

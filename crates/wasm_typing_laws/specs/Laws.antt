@@ -9,6 +9,8 @@ use Rattle.wasm_typing.specs.Tokens.{Token, code_of}
 use Rattle.wasm_typing.specs.Places.{HasDerivation, IsFirstPlace, closed}
 use Rattle.wasm_typing.specs.ByteOrder.{Open, Leads, start}
 use Rattle.wasm_typing.specs.Violations.{IsFirstViolation}
+use Rattle.wasm_typing.specs.Heights.{height_of}
+use Rattle.wasm_typing.specs.Points.{IsHeight}
 use Rattle.wasm_typing.specs.Modules.{FirstViolation, IsValid, Violation}
 use Rattle.wasm_typing_laws.specs.Checking.{Seen, walk, begin}
 
@@ -47,3 +49,8 @@ NeverBoth = (m : WModule) (v : Violation) → IsValid m → FirstViolation m v �
 -- no module has two first violations
 abbrev pub OneViolation : Type 0
 OneViolation = (m : WModule) (v w : Violation) → FirstViolation m v → FirstViolation m w → v ≡ w
+
+-- the height of a typed body is the greatest number of operands at a point that no unconditional branch precedes in its own list
+-- or in a list around it
+abbrev pub HeightIsTheGreatest : Type 0
+HeightIsTheGreatest = (C : Context) (body : List WInstr) → IsTypedBody C body → IsHeight C body (height_of C body)

@@ -1,4 +1,4 @@
-ghost use Rattle.wasm_typing_laws.specs.Laws.{CheckerIsExact, CodeInByteOrder, NeverBoth, OneViolation, OneViolationOfABody, TypedHasNoPlace, TypedInByteOrder, TypedOrViolated, ValidOrViolated};
+ghost use Rattle.wasm_typing_laws.specs.Laws.{CheckerIsExact, CodeInByteOrder, HeightIsTheGreatest, NeverBoth, OneViolation, OneViolationOfABody, TypedHasNoPlace, TypedInByteOrder, TypedOrViolated, ValidOrViolated};
 ghost use Rattle.wasm_typing_laws.specs.Rows.{WorkedViolations};
 
 /// A law: a tree and its instructions in byte order have the same derivations, and the algorithm of the standard's
@@ -26,4 +26,10 @@ pub fn a_module_is_valid_or_violated()
 /// Rows: bodies that are typed, and bodies with their first violations.
 pub fn worked_violations()
     ensures { WorkedViolations }
+{}
+
+/// A law: the height of a typed body is the greatest number of operands at a point that no unconditional branch precedes
+/// in its own list or in a list around it.
+pub fn height_is_the_greatest()
+    ensures { HeightIsTheGreatest }
 {}

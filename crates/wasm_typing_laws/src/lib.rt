@@ -1,6 +1,6 @@
 //! Laws of the typing of WebAssembly modules: trees and byte order have the same derivations, a body or a module is
 //! valid or has exactly one first violation. `Checking` of specs/ is the algorithm of the standard's appendix A.3, which
-//! the laws show to be exact; `worked_violations` are bodies with their first violations, computed.
+//! the laws show to be exact; `height_is_the_greatest` says what a height is; `worked_violations` are computed rows.
 #![tactic(auto)]
 
 mod laws;
