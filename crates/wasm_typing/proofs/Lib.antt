@@ -1,0 +1,2 @@
+pub mod ComputedFaults
+pub mod HeightLayers

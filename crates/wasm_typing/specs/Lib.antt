@@ -1,0 +1,12 @@
+pub mod Contexts
+pub mod Signatures
+pub mod Typing
+pub mod Tokens
+pub mod Places
+pub mod ByteOrder
+pub mod Violations
+pub mod Heights
+pub mod Points
+pub mod Fields
+pub mod Modules
+pub mod Rows

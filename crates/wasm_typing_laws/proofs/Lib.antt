@@ -1,0 +1,13 @@
+pub mod Stacks
+pub mod Steps
+pub mod Closing
+pub mod Layers
+pub mod Join
+pub mod Refusals
+pub mod OneRule
+pub mod Balance
+pub mod Modules
+pub mod WorkedBodies
+pub mod LiveSignatures
+pub mod HeightBounds
+pub mod HeightPoints
