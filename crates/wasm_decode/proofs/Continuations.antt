@@ -10,7 +10,7 @@ use Rattle.wasm_reading.specs.Readers.{Reader}
 use Rattle.wasm_reading.specs.ReadModules.{reading_of, without_rest}
 use Rattle.wasm_reading_laws.proofs.Faults.{truncated_is_undecided}
 use Rattle.wasm_items.specs.Residuals.{no_memory}
-use Rattle.wasm_decode.specs.declared.decoder.Decoder.{Decoder}
+use Rattle.wasm_decode.specs.declared.state.DecoderState.{DecoderState}
 use Rattle.wasm_decode.specs.declared.steps.Step.{Step}
 use Rattle.wasm_decode.specs.declared.steps.Step.TheVariants.{Preamble, Between, Size, Custom, Content}
 use Rattle.wasm_decode.specs.Decoding.{answer_of, IsSettled, Resumes}
@@ -20,10 +20,10 @@ use Rattle.wasm_decode.proofs.Advancing.{preamble_over}
 use Rattle.wasm_decode.proofs.Decoding.{answer_wanting, answer_whole, preamble_truncated, size_truncated, custom_truncated, content_truncated}
 
 -- behind a piece
-pub resumes_behind : (d d' : Decoder) (piece : List ℕ) → ((rest : List ℕ) → answer_of d' rest ≡ answer_of d (piece ++ rest)) → (fed : List ℕ) → Resumes d fed → Resumes d' (fed ++ piece)
+pub resumes_behind : (d d' : DecoderState) (piece : List ℕ) → ((rest : List ℕ) → answer_of d' rest ≡ answer_of d (piece ++ rest)) → (fed : List ℕ) → Resumes d fed → Resumes d' (fed ++ piece)
 resumes_behind d d' piece ok fed r = λ rest. ok rest ∙ r (piece ++ rest) ∙ ap reading_of (sym (append_assoc fed piece rest))
 
-pub settled_or : (d : Decoder) (piece : List ℕ) (e : DecodeError) → (e ≡ no_memory) ⊎ ((rest : List ℕ) → answer_of d (piece ++ rest) ≡ Err e) → (fed : List ℕ) → Resumes d fed →
+pub settled_or : (d : DecoderState) (piece : List ℕ) (e : DecodeError) → (e ≡ no_memory) ⊎ ((rest : List ℕ) → answer_of d (piece ++ rest) ≡ Err e) → (fed : List ℕ) → Resumes d fed →
     (e ≡ no_memory) ⊎ IsSettled (fed ++ piece) e
 settled_or d piece e (inl memory) fed r = inl memory
 settled_or d piece e (inr stops) fed r = inr (λ rest. ap reading_of (append_assoc fed piece rest) ∙ sym (r (piece ++ rest)) ∙ stops rest)
@@ -55,10 +55,10 @@ id_truncated : (at last : ℕ) (m : WModule) → sections_left last m (record { 
 id_truncated at last m = refl
 
 -- some continuation is truncated
-abbrev TruncatesBy : Decoder → List ℕ → ℕ → Type 0
+abbrev TruncatesBy : DecoderState → List ℕ → ℕ → Type 0
 TruncatesBy d rest at = answer_of d rest ≡ Err (record { at = at; fault = Truncated })
 
-some_truncated : (d : Decoder) → d.failed ≡ None → WantsOrIsBetween d.step d.at d.last d.built → (rest : List ℕ) × (at : ℕ) × TruncatesBy d rest at
+some_truncated : (d : DecoderState) → d.failed ≡ None → WantsOrIsBetween d.step d.at d.last d.built → (rest : List ℕ) × (at : ℕ) × TruncatesBy d rest at
 some_truncated d is (inl t) = ([], d.at, answer_wanting d is t)
 some_truncated d is (inr between) = (
   0 ∷ [],
@@ -71,14 +71,14 @@ some_truncated d is (inr between) = (
 fault_is : (r : Result WModule DecodeError) (e : DecodeError) (at : ℕ) → r ≡ Err (record { at = at; fault = Truncated }) → r ≡ Err e → e.fault ≡ Truncated
 fault_is r e at p q = let same : e ≡ record { at = at; fault = Truncated } = cc in ap (λ (x : DecodeError). x.fault) same
 
-not_settled : (d : Decoder) → d.failed ≡ None → (fed : List ℕ) → Resumes d fed → (e : DecodeError) → IsSettled fed e → ⊥
+not_settled : (d : DecoderState) → d.failed ≡ None → (fed : List ℕ) → Resumes d fed → (e : DecodeError) → IsSettled fed e → ⊥
 not_settled d is fed r e s =
     let some = some_truncated d is (wants_or_is_between d.step d.at d.last d.built) in
     let truncated : e.fault ≡ Truncated = fault_is (answer_of d some.0) e some.1 some.2 (r some.0 ∙ s some.0) in
     truncated_is_undecided fed e (ap reading_of (sym (append-nil fed)) ∙ s []) truncated 0 (s (0 ∷ []))
 
 -- behind a piece of which no error was answered
-pub undecided_behind : (d d' : Decoder) (piece : List ℕ) (r : Result (Unit {0}) DecodeError) → OnOk r ((rest : List ℕ) → answer_of d' rest ≡ answer_of d (piece ++ rest)) → OnOk r (d'.failed ≡ None) →
+pub undecided_behind : (d d' : DecoderState) (piece : List ℕ) (r : Result (Unit {0}) DecodeError) → OnOk r ((rest : List ℕ) → answer_of d' rest ≡ answer_of d (piece ++ rest)) → OnOk r (d'.failed ≡ None) →
     OnOk r ((fed : List ℕ) → Resumes d fed → (e : DecodeError) → IsSettled (fed ++ piece) e → ⊥)
 undecided_behind d d' piece (Ok x) ok is = λ fed r e s. not_settled d' is (fed ++ piece) (resumes_behind d d' piece ok fed r) e s
 undecided_behind d d' piece (Err x) ok is = tt

@@ -9,7 +9,7 @@ use Rattle.wasm_reading.specs.declared.fault.DecodeError.{DecodeError}
 use Rattle.wasm_reading.specs.declared.fault.DecodeFault.TheVariants.{Truncated, CountMismatch}
 use Rattle.wasm_reading.specs.ReadModules.{reading_of}
 use Rattle.wasm_items.specs.LebStates.{LebState}
-use Rattle.wasm_decode.specs.declared.decoder.Decoder.{Decoder}
+use Rattle.wasm_decode.specs.declared.state.DecoderState.{DecoderState}
 use Rattle.wasm_decode.specs.declared.steps.Step.{Step}
 use Rattle.wasm_decode.specs.declared.steps.Step.TheVariants.{Size, Custom}
 use Rattle.wasm_decode.specs.Steps.{custom_bytes, custom_step}
@@ -28,13 +28,13 @@ not_truncated bytes at (Err e) t h =
     let both : Truncated ≡ CountMismatch = ap (λ (x : DecodeError). x.fault) (sym wants ∙ h) in
     absurd (cc)
 
-between_or : (d : Decoder) (fed : List ℕ) → d.failed ≡ None → Resumes d fed → EndsBetweenSections fed → WantsOrIsBetween d.step d.at d.last d.built → IsBetween d.step
+between_or : (d : DecoderState) (fed : List ℕ) → d.failed ≡ None → Resumes d fed → EndsBetweenSections fed → WantsOrIsBetween d.step d.at d.last d.built → IsBetween d.step
 between_or d fed whole r between (inr is) = is
 between_or d fed whole r between (inl t) =
     absurd (not_truncated fed d.at (reading_of fed) (ap reading_of (sym (append-nil fed)) ∙ sym (r []) ∙ answer_wanting d whole t) between)
 
 -- where the input ends between two sections, the id of one is read next
-pub is_between : (d : Decoder) (fed : List ℕ) → d.failed ≡ None → Resumes d fed → EndsBetweenSections fed → IsBetween d.step
+pub is_between : (d : DecoderState) (fed : List ℕ) → d.failed ≡ None → Resumes d fed → EndsBetweenSections fed → IsBetween d.step
 is_between d fed whole r between = between_or d fed whole r between (wants_or_is_between d.step d.at d.last d.built)
 
 -- the answer to a byte, as far as custom sections go
@@ -63,7 +63,7 @@ ends_in fed front back b e (inr found) =
     let both = same_from_push fed (front ++ found.0) b found.1 joined in
     inr (found.0, found.2 ∙ ap (λ (y : ℕ). found.0 ++ y ∷ []) (sym both.1), both.0)
 
-module _ (d : Decoder) (b : ℕ) (next : Step) (fed : List ℕ) (on : StepsOn d.step b d.at (Ok next)) (s : StandsBehind d fed) where
+module _ (d : DecoderState) (b : ℕ) (next : Step) (fed : List ℕ) (on : StepsOn d.step b d.at (Ok next)) (s : StandsBehind d fed) where
   -- a byte of a size that was begun
   in_begun_size : (left : List ℕ) (n : ℕ) → IsInSize d.step d.at (b ∷ left) n → IsInSize next (d.at + 1) left n
   in_begun_size left n (inl found) = on.sized found.0 found.1 left n found.2
@@ -132,7 +132,7 @@ module _ (d : Decoder) (b : ℕ) (next : Step) (fed : List ℕ) (on : StepsOn d.
       })
 
 -- a byte is taken
-pub stands_on : (d d' : Decoder) (b : ℕ) → ((rest : List ℕ) → answer_of d' rest ≡ answer_of d (b ∷ rest)) → d'.failed ≡ None → d'.at ≡ d.at + 1 → StepsOn d.step b d.at (Ok d'.step) →
+pub stands_on : (d d' : DecoderState) (b : ℕ) → ((rest : List ℕ) → answer_of d' rest ≡ answer_of d (b ∷ rest)) → d'.failed ≡ None → d'.at ≡ d.at + 1 → StepsOn d.step b d.at (Ok d'.step) →
     (fed : List ℕ) → StandsBehind d fed → StandsBehind d' (fed ++ b ∷ [])
 stands_on d d' b ok whole at on fed s = record {
   resumes = resumes_behind d d' (b ∷ []) ok fed s.resumes;
@@ -148,7 +148,7 @@ none_before : (front back : List ℕ) → (let fed : List ℕ = [] in fed) ≡ f
 none_before [] back e = let both : (let fed : List ℕ = [] in fed) ≡ 0x00 ∷ back = e in absurd (cc)
 none_before (x ∷ front) back e = let both : (let fed : List ℕ = [] in fed) ≡ x ∷ (front ++ 0x00 ∷ back) = e in absurd (cc)
 
-pub stands_new : (d : Decoder) → Resumes d [] → d.failed ≡ None → d.at ≡ 0 → StandsBehind d []
+pub stands_new : (d : DecoderState) → Resumes d [] → d.failed ≡ None → d.at ≡ 0 → StandsBehind d []
 stands_new d resumes whole at = record {
   resumes = resumes;
   whole = whole;
@@ -158,5 +158,5 @@ stands_new d resumes whole at = record {
 }
 
 -- no error was answered
-pub never_failed : (d : Decoder) (e : DecodeError) (fed : List ℕ) → StandsBehind d fed → d.failed ≡ Some e → ⊥
+pub never_failed : (d : DecoderState) (e : DecodeError) (fed : List ℕ) → StandsBehind d fed → d.failed ≡ Some e → ⊥
 never_failed d e fed s is = let both : Some e ≡ None = sym is ∙ s.whole in absurd (cc)

@@ -15,7 +15,7 @@ use Rattle.wasm_items.specs.Residuals.{WantsAByte, stop, no_memory}
 use Rattle.wasm_items.specs.WantsBytes.{wants_then, wants_here, wants_byte, wants_leb}
 use Rattle.wasm_contents.specs.declared.content.Content as content
 use Rattle.wasm_contents.specs.Contents.{rest_of_content}
-use Rattle.wasm_decode.specs.declared.decoder.Decoder.{Decoder}
+use Rattle.wasm_decode.specs.declared.state.DecoderState.{DecoderState}
 use Rattle.wasm_decode.specs.declared.steps.Step.{Step}
 use Rattle.wasm_decode.specs.declared.steps.Step.TheVariants.{Preamble, Between, Size, Custom, Content}
 use Rattle.wasm_decode.specs.Decoding.{answer_of, error_or}
@@ -81,17 +81,17 @@ content_truncated behind at last m state =
     (otherwise (at == at + (behind + 1)) (Err (record { at = at; fault = BadLength })) (Err (record { at = at; fault = Truncated })) (ne_eqb _ _ (λ e. omega (arith, e)))))
 
 -- a decoder that has answered an error
-pub answer_failed : (d : Decoder) (e : DecodeError) → d.failed ≡ Some e → (rest : List ℕ) → answer_of d rest ≡ Err e
+pub answer_failed : (d : DecoderState) (e : DecodeError) → d.failed ≡ Some e → (rest : List ℕ) → answer_of d rest ≡ Err e
 unfolding answer_of
 answer_failed d e is rest = ap (λ (f : Option DecodeError). error_or f (without_rest (rest_of_step d.at d.last d.built d.step (record { at = d.at; end = None; rest = rest })))) is
 
 -- a decoder that has answered none
-pub answer_whole : (d : Decoder) → d.failed ≡ None → (rest : List ℕ) → answer_of d rest ≡ without_rest (rest_of_step d.at d.last d.built d.step (record { at = d.at; end = None; rest = rest }))
+pub answer_whole : (d : DecoderState) → d.failed ≡ None → (rest : List ℕ) → answer_of d rest ≡ without_rest (rest_of_step d.at d.last d.built d.step (record { at = d.at; end = None; rest = rest }))
 unfolding answer_of
 answer_whole d is rest = ap (λ (f : Option DecodeError). error_or f (without_rest (rest_of_step d.at d.last d.built d.step (record { at = d.at; end = None; rest = rest })))) is
 
 -- a byte is taken
-pub answer_advanced : (d d' : Decoder) (b : ℕ) → d.failed ≡ None → d'.failed ≡ None → d'.at ≡ d.at + 1 →
+pub answer_advanced : (d d' : DecoderState) (b : ℕ) → d.failed ≡ None → d'.failed ≡ None → d'.at ≡ d.at + 1 →
     TakesAtTop (rest_of_step d.at d.last d.built d.step) b d.at (rest_of_step (d.at + 1) d'.last d'.built d'.step) → (rest : List ℕ) → answer_of d' rest ≡ answer_of d (b ∷ rest)
 answer_advanced d d' b is is' at t rest =
     answer_whole d' is' rest
@@ -100,25 +100,25 @@ answer_advanced d d' b is is' at t rest =
     ∙ sym (answer_whole d is (b ∷ rest))
 
 -- a byte has a fault
-pub answer_stopped : (d : Decoder) (b : ℕ) (e : DecodeError) → d.failed ≡ None → TakesAtTop (rest_of_step d.at d.last d.built d.step) b d.at (stop e) → (rest : List ℕ) → answer_of d (b ∷ rest) ≡ Err e
+pub answer_stopped : (d : DecoderState) (b : ℕ) (e : DecodeError) → d.failed ≡ None → TakesAtTop (rest_of_step d.at d.last d.built d.step) b d.at (stop e) → (rest : List ℕ) → answer_of d (b ∷ rest) ≡ Err e
 answer_stopped d b e is t rest = answer_whole d is (b ∷ rest) ∙ answer_stops e t rest
 
 -- the input ends where a byte is wanted
-pub answer_wanting : (d : Decoder) → d.failed ≡ None → IsTruncated (rest_of_step d.at d.last d.built d.step) d.at → answer_of d [] ≡ Err (record { at = d.at; fault = Truncated })
+pub answer_wanting : (d : DecoderState) → d.failed ≡ None → IsTruncated (rest_of_step d.at d.last d.built d.step) d.at → answer_of d [] ≡ Err (record { at = d.at; fault = Truncated })
 answer_wanting d is t = answer_whole d is [] ∙ ap without_rest t
 
 -- the input ends behind a section
-pub answer_complete : (d : Decoder) → d.failed ≡ None → rest_of_step d.at d.last d.built d.step ≡ sections_left d.last d.built → length d.built.codes ≡ length d.built.funcs → answer_of d [] ≡ Ok d.built
+pub answer_complete : (d : DecoderState) → d.failed ≡ None → rest_of_step d.at d.last d.built d.step ≡ sections_left d.last d.built → length d.built.codes ≡ length d.built.funcs → answer_of d [] ≡ Ok d.built
 answer_complete d is e counts =
     answer_whole d is [] ∙ ap (λ (r : Reader WModule). without_rest (r (record { at = d.at; end = None; rest = [] }))) e ∙ answer_ended d.last d.at d.built counts
 
-pub answer_uneven : (d : Decoder) → d.failed ≡ None → rest_of_step d.at d.last d.built d.step ≡ sections_left d.last d.built → (length d.built.codes ≡ length d.built.funcs → ⊥) →
+pub answer_uneven : (d : DecoderState) → d.failed ≡ None → rest_of_step d.at d.last d.built d.step ≡ sections_left d.last d.built → (length d.built.codes ≡ length d.built.funcs → ⊥) →
     answer_of d [] ≡ Err (record { at = d.at; fault = CountMismatch })
 answer_uneven d is e counts =
     answer_whole d is [] ∙ ap (λ (r : Reader WModule). without_rest (r (record { at = d.at; end = None; rest = [] }))) e ∙ answer_mismatch d.last d.at d.built counts
 
 -- nothing was fed
-pub answer_new : (d : Decoder) → d.failed ≡ None → d.at ≡ 0 → d.last ≡ 0 → d.built ≡ empty_module → d.step ≡ Preamble 0 → (bytes : List ℕ) → answer_of d bytes ≡ reading_of bytes
+pub answer_new : (d : DecoderState) → d.failed ≡ None → d.at ≡ 0 → d.last ≡ 0 → d.built ≡ empty_module → d.step ≡ Preamble 0 → (bytes : List ℕ) → answer_of d bytes ≡ reading_of bytes
 answer_new d is at last built step bytes =
     answer_whole d is bytes
     ∙ ap (λ (place : ℕ). without_rest (rest_of_step place d.last d.built d.step (record { at = place; end = None; rest = bytes }))) at
@@ -126,7 +126,7 @@ answer_new d is at last built step bytes =
     ∙ ap (λ (m : WModule). without_rest (rest_of_step 0 0 m d.step (record { at = 0; end = None; rest = bytes }))) built
     ∙ ap (λ (s : Step). without_rest (rest_of_step 0 0 empty_module s (record { at = 0; end = None; rest = bytes }))) step
 
-pub answer_stopped_or : (d : Decoder) (b : ℕ) (e : DecodeError) → d.failed ≡ None → (e ≡ no_memory) ⊎ TakesAtTop (rest_of_step d.at d.last d.built d.step) b d.at (stop e) →
+pub answer_stopped_or : (d : DecoderState) (b : ℕ) (e : DecodeError) → d.failed ≡ None → (e ≡ no_memory) ⊎ TakesAtTop (rest_of_step d.at d.last d.built d.step) b d.at (stop e) →
     (e ≡ no_memory) ⊎ ((rest : List ℕ) → answer_of d (b ∷ rest) ≡ Err e)
 answer_stopped_or d b e is (inl memory) = inl memory
 answer_stopped_or d b e is (inr t) = inr (answer_stopped d b e is t)
@@ -137,7 +137,7 @@ pub no_entries : (m : WModule) → m.types ≡ [] → m.imports ≡ [] → m.fun
 no_entries m a b c d e f g h i j k = λ x. record { types = a x; imports = b x; funcs = c x; tables = d x; memories = e x; globals = f x; exports = g x; start = h x; elements = i x; codes = j x; segments = k x }
 
 -- the first fault of a whole input
-pub whole_fault : (d : Decoder) (bytes : List ℕ) (e : DecodeError) → ((bs : List ℕ) → answer_of d bs ≡ reading_of bs) → (e ≡ no_memory) ⊎ ((rest : List ℕ) → answer_of d (bytes ++ rest) ≡ Err e) →
+pub whole_fault : (d : DecoderState) (bytes : List ℕ) (e : DecodeError) → ((bs : List ℕ) → answer_of d bs ≡ reading_of bs) → (e ≡ no_memory) ⊎ ((rest : List ℕ) → answer_of d (bytes ++ rest) ≡ Err e) →
     (e ≡ no_memory) ⊎ (reading_of bytes ≡ Err e)
 whole_fault d bytes e starts (inl memory) = inl memory
 whole_fault d bytes e starts (inr stops) = inr (sym (starts bytes) ∙ ap (answer_of d) (sym (append-nil bytes)) ∙ stops [])

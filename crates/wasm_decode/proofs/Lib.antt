@@ -7,3 +7,4 @@ pub mod CustomSteps
 pub mod CustomSections
 pub mod LyingInCustom
 pub mod Stopping
+pub mod InProfile

@@ -5,7 +5,7 @@ use Rattle.std.specs.Prelude.{Err}
 use Rattle.wasm_grammar.specs.GrammarValues.{IsUnsigned}
 use Rattle.wasm_grammar.specs.GrammarModules.{IsCustomSection}
 use Rattle.wasm_reading.specs.declared.fault.DecodeError.{DecodeError}
-use Rattle.wasm_decode.specs.declared.decoder.Decoder.{Decoder}
+use Rattle.wasm_decode.specs.declared.state.DecoderState.{DecoderState}
 use Rattle.wasm_decode.specs.Steps.{custom_bytes}
 use Rattle.wasm_decode.specs.CustomSections.{EndsBetweenSections, EndsInCustomContent, LiesInCustomSection}
 use Rattle.wasm_decode.specs.CustomSteps.{IsInSize}
@@ -33,7 +33,7 @@ stands_in (x ∷ xs) (u ∷ us) ys vs b e =
     let rest : xs ++ b ∷ ys ≡ us ++ vs = cc in
     behind_first x u xs us ys vs b same (stands_in xs us ys vs b rest)
 
-module _ (d : Decoder) (b : ℕ) (e : DecodeError) (fed front : List ℕ) (on : StepsOn d.step b d.at (Err e)) (s : StandsBehind d fed) (between : EndsBetweenSections front) where
+module _ (d : DecoderState) (b : ℕ) (e : DecodeError) (fed front : List ℕ) (on : StepsOn d.step b d.at (Err e)) (s : StandsBehind d fed) (between : EndsBetweenSections front) where
   in_id : fed ≡ front → b ≡ 0x00 → ⊥
   in_id same zero = on.begins zero (is_between d fed s.whole s.resumes (subst EndsBetweenSections (sym same) between))
 
@@ -74,7 +74,7 @@ module _ (d : Decoder) (b : ℕ) (e : DecodeError) (fed front : List ℕ) (on : 
       in_section begun left size content (is ∙ ap (λ (y : ℕ). front ++ y ∷ begun) zero) measured (stands_in begun size left content b rest)
 
 -- a byte that lies in a custom section has no fault
-pub no_error_in_custom : (d : Decoder) (b : ℕ) (e : DecodeError) (fed : List ℕ) → StepsOn d.step b d.at (Err e) → StandsBehind d fed → LiesInCustomSection fed (b ∷ []) → ⊥
+pub no_error_in_custom : (d : DecoderState) (b : ℕ) (e : DecodeError) (fed : List ℕ) → StepsOn d.step b d.at (Err e) → StandsBehind d fed → LiesInCustomSection fed (b ∷ []) → ⊥
 no_error_in_custom d b e fed on s lies =
     let sized = lies.spelled.second in
     let section : lies.begun ++ b ∷ lies.left ≡ 0x00 ∷ (sized.size ++ sized.content) =

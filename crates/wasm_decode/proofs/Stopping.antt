@@ -5,10 +5,10 @@ use Rattle.std.specs.Prelude.{Result, Ok, Err, IfErr, IsErrAnd}
 use Rattle.wasm_ast.specs.declared.modules.WModule.{WModule}
 use Rattle.wasm_reading.specs.declared.fault.DecodeError.{DecodeError}
 use Rattle.wasm_items.specs.Residuals.{no_memory}
-use Rattle.wasm_decode.specs.declared.decoder.Decoder.{Decoder}
+use Rattle.wasm_decode.specs.declared.state.DecoderState.{DecoderState}
 use Rattle.wasm_decode.specs.Decoding.{answer_of}
 
-pub stops_at : (d d' : Decoder) (piece : List ℕ) (i x : ℕ) (e : DecodeError) (answer : Result (Unit {0}) DecodeError) → IsErrAnd answer (λ given. given ≡ e) → i < length piece →
+pub stops_at : (d d' : DecoderState) (piece : List ℕ) (i x : ℕ) (e : DecodeError) (answer : Result (Unit {0}) DecodeError) → IsErrAnd answer (λ given. given ≡ e) → i < length piece →
     ((rest : List ℕ) → answer_of d' (drop i piece ++ rest) ≡ answer_of d (piece ++ rest)) → (e ≡ no_memory) ⊎ ((rest : List ℕ) → answer_of d' (get_or piece i x ∷ rest) ≡ Err e) →
     IfErr answer (λ given. (given ≡ no_memory) ⊎ ((rest : List ℕ) → answer_of d (piece ++ rest) ≡ Err given))
 stops_at d d' piece i x e (Ok y) is less resumes stops = absurd is

@@ -9,11 +9,11 @@ use Rattle.wasm_reading.specs.ReadModules.{reading_of}
 use Rattle.wasm_reading_values.specs.Exactness.{AreBytes}
 use Rattle.wasm_reading_laws.proofs.Modules.{read_is_spelled, spelled_is_read}
 use Rattle.wasm_items.specs.Residuals.{no_memory}
-use Rattle.wasm_decode.specs.declared.decoder.Decoder.{Decoder}
+use Rattle.wasm_decode.specs.declared.state.DecoderState.{DecoderState}
 use Rattle.wasm_decode.specs.Decoding.{answer_of}
 
 -- the answer at the end of the whole input
-pub answer_is_reading : (d d' : Decoder) (bytes : List ℕ) → ((bs : List ℕ) → answer_of d bs ≡ reading_of bs) → ((rest : List ℕ) → answer_of d' rest ≡ answer_of d (bytes ++ rest)) → answer_of d' [] ≡ reading_of bytes
+pub answer_is_reading : (d d' : DecoderState) (bytes : List ℕ) → ((bs : List ℕ) → answer_of d bs ≡ reading_of bs) → ((rest : List ℕ) → answer_of d' rest ≡ answer_of d (bytes ++ rest)) → answer_of d' [] ≡ reading_of bytes
 answer_is_reading d d' bytes starts ok = ok [] ∙ ap (answer_of d) (append-nil bytes) ∙ starts bytes
 
 pub answer_spelled : (bytes : List ℕ) (answer r : Result WModule DecodeError) → answer ≡ reading_of bytes → IfOk r (λ m. answer ≡ Ok m) → AreBytes bytes → IfOk r (λ m. SpellsModule bytes m)

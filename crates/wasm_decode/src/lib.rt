@@ -4,6 +4,7 @@
 mod decoded;
 mod decoder;
 mod laws;
+mod state;
 mod steps;
 mod whole;
 

@@ -1,6 +1,6 @@
 use Rattle.std.proofs.Common.{sym, ◌∙◌}
 use Rattle.wasm_decode.proofs.Decoding.{answer_wanting, answer_complete, answer_uneven}
-use Rattle.wasm_decode.proofs.decoder.Decoder.complete.Goals as goal
+use Rattle.wasm_decode.proofs.state.DecoderState.complete.Goals as goal
 
 pub returns-then-wants_a_byte-clause-err : goal.returns-then-wants_a_byte-clause-err
 returns-then-wants_a_byte-clause-err c =

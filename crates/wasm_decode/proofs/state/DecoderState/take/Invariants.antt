@@ -1,6 +1,6 @@
 use Rattle.std.proofs.Common.{◌≡◌, ◌++◌, ◌+◌, ◌-◌, ◌≤◌, List, ℕ, None, drop, take, length}
 use Rattle.wasm_decode.specs.Decoding.{answer_of, at_of, custom_left_of, error_of, StandsBehind}
-use Rattle.wasm_decode.proofs.decoder.Decoder.take.Given as goal
+use Rattle.wasm_decode.proofs.state.DecoderState.take.Given as goal
 
 -- no error was answered, the answer to what follows is that of the start, a custom section has the bytes left that were
 -- not taken, and the decoder stands behind the bytes that were taken

@@ -2,7 +2,7 @@ use Rattle.std.proofs.Common.{◌++◌, take, arith}
 use Rattle.std.proofs.lemmas.Bool.{false≢true}
 use Rattle.wasm_decode.proofs.LyingInCustom.{lies_at}
 use Rattle.wasm_decode.proofs.Stopping.{stops_at}
-use Rattle.wasm_decode.proofs.decoder.Decoder.take.Goals as goal
+use Rattle.wasm_decode.proofs.state.DecoderState.take.Goals as goal
 
 pub returns-in_err-push-clause-err : goal.returns-in_err-push-clause-err
 returns-in_err-push-clause-err c =

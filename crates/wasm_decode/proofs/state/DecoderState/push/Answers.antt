@@ -2,7 +2,7 @@ use Rattle.std.proofs.Common.{refl}
 use Rattle.wasm_decode.proofs.CustomSections.{stands_on}
 use Rattle.wasm_decode.proofs.LyingInCustom.{no_error_in_custom}
 use Rattle.wasm_decode.proofs.Decoding.{answer_advanced, answer_stopped_or, custom_less, custom_no_error}
-use Rattle.wasm_decode.proofs.decoder.Decoder.push.Goals as goal
+use Rattle.wasm_decode.proofs.state.DecoderState.push.Goals as goal
 
 pub returns-in-Ok-clause-ok : goal.returns-in-Ok-clause-ok
 returns-in-Ok-clause-ok c = λ rest. rw c.set.ensures (answer_advanced c.args.self.now _ c.args.byte c.requires c.requires refl (rw c.replace-step.ensures.value at c.in-Ok.ensures.advances) rest)
