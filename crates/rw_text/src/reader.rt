@@ -118,6 +118,3 @@ fn main_name(alloc: Global) -> Result<Name, AllocError>
         None => unreachable!(),
     }
 }
-
-#[cfg(test)]
-mod tests;
