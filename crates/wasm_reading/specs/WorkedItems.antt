@@ -9,7 +9,7 @@ use Rattle.wasm_ast.specs.declared.instructions.WInstr.TheOpen.{WInstr-F}
 use Rattle.wasm_reading.specs.declared.fault.DecodeError.{DecodeError}
 use Rattle.wasm_reading.specs.declared.fault.DecodeFault.{DecodeFault}
 use Rattle.wasm_reading.specs.declared.fault.DecodeFault.TheVariants.{Truncated, BadLeb, BadTag, BadLength, FloatOutside, LimitOutside}
-use Rattle.wasm_reading.specs.Readers.{Reader, Input, byte_at}
+use Rattle.wasm_reading.specs.Readers.{Reader, byte_at}
 use Rattle.wasm_reading.specs.ReadValues.{tag_at, u32_at, vector_at}
 use Rattle.wasm_reading.specs.ReadTypes.{value_type_of, table_at, memory_at}
 use Rattle.wasm_reading.specs.ReadInstructions.{constant_at, kind_of, plain_at}

@@ -1,14 +1,9 @@
 -- Inputs at the limits of the profile and one past them, and preambles that are not whole, written out with what reading
 -- them gives; this project's own rows.
-use Rattle.std.specs.Prelude.{◌≡◌, ℕ, zero, suc, List, [], ◌∷◌, ◌++◌, Some, None, Ok, Err}
-use Rattle.wasm_ast.specs.declared.modules.Code.{Code}
-use Rattle.wasm_ast.specs.declared.modules.LocalRun.{LocalRun}
-use Rattle.wasm_ast.specs.declared.modules.WModule.{WModule}
-use Rattle.wasm_ast.specs.declared.types.FuncType.{FuncType}
+use Rattle.std.specs.Prelude.{◌≡◌, ℕ, zero, suc, List, [], ◌∷◌, None, Ok, Err}
 use Rattle.wasm_ast.specs.declared.types.Limits.{Limits}
 use Rattle.wasm_ast.specs.declared.types.ValTy.TheVariants.{I64}
 use Rattle.wasm_grammar.specs.WorkedModules.{empty_module}
-use Rattle.wasm_reading.specs.declared.fault.DecodeFault.{DecodeFault}
 use Rattle.wasm_reading.specs.declared.fault.DecodeFault.TheVariants.{Truncated, BadTag, BadMagic, BadVersion, LimitOutside}
 use Rattle.wasm_reading.specs.ReadModules.{reading_of}
 use Rattle.wasm_reading.specs.WorkedReadings.{behind_preamble, HasFault}
