@@ -1,11 +1,10 @@
 -- At no point of a code stand more operands than its height. What is bounded of the tokens behind a list is bounded of the list
 -- and of them: by induction on the size of the trees.
-use Rattle.std.proofs.Common.{◌≡◌, ◌∙◌, ℕ, zero, suc, ◌+◌, ◌-◌, ◌≤◌, max, Bool, true, false, ◌⊎◌, inl, inr, List, [], ◌∷◌, ◌++◌, map, length, refl, sym, ap, subst, append_assoc, arith}
+use Rattle.std.proofs.Common.{◌≡◌, ◌∙◌, ℕ, zero, suc, ◌+◌, ◌-◌, ◌≤◌, max, Bool, true, false, List, [], ◌∷◌, ◌++◌, length, refl, sym, ap, subst, append_assoc, arith}
 use Rattle.std.specs.Prelude.{Option, Some, None, Result, Ok, Err, if◌then◌else◌, option_to_list, flat_map, sum_by}
 use Rattle.std.proofs.lemmas.List.{length-append}
 use Rattle.std.proofs.lemmas.List.Sums.{sum_by-cons}
 use Rattle.wasm_ast.specs.declared.types.ValTy.{ValTy}
-use Rattle.wasm_ast.specs.declared.types.ValTy.TheVariants.{I32}
 use Rattle.wasm_ast.specs.declared.instructions.WInstr.{WInstr, out-WInstr}
 use Rattle.wasm_ast.specs.declared.instructions.WInstr.TheOpen.{WInstr-F}
 use Rattle.wasm_ast.specs.Immediates.{immediate_in}
@@ -13,10 +12,10 @@ use Rattle.wasm_ast.specs.Operations.{operation_in}
 use Rattle.wasm_ast.proofs.Counts.{instruction_count, immediate_count, instruction_count-layer}
 use Rattle.wasm_typing.specs.declared.rule.WRule.{WRule}
 use Rattle.wasm_typing.specs.Contexts.{Context}
-use Rattle.wasm_typing.specs.Signatures.{Slot, Left, Gives, Anything, Signature, signature_in}
-use Rattle.wasm_typing.specs.Typing.{fill, IsLeft, Applies, Labels}
-use Rattle.wasm_typing.specs.Tokens.{Token, Plain, OpensBlock, OpensLoop, OpensIf, Else, End, bare, tokens_in, tokens_of, code_of}
-use Rattle.wasm_typing.specs.ByteOrder.{Shape, Straight, Again, FirstArm, Open, labels, label_of, result_of, put, given, leads, Leads, start}
+use Rattle.wasm_typing.specs.Signatures.{Left, Gives, Anything, Signature, signature_in}
+use Rattle.wasm_typing.specs.Typing.{Applies, Labels}
+use Rattle.wasm_typing.specs.Tokens.{Token, Plain, Else, End, bare, tokens_in, tokens_of, code_of}
+use Rattle.wasm_typing.specs.ByteOrder.{Shape, Straight, Again, FirstArm, Open, labels, label_of, result_of, put, leads, Leads, start}
 use Rattle.wasm_typing.specs.Heights.{Met, count, met_left, met_plain, met_then, met_list, met_block, met_in, met_of, height_of}
 use Rattle.wasm_typing.specs.Points.{never_goes_on, reached_behind, reached, is_reached, standing, IsPoint}
 use Rattle.wasm_typing.proofs.HeightLayers.{met-layer}

@@ -1,6 +1,6 @@
 -- The height of a typed body is met at some point of it: by induction on the derivation.
-use Rattle.std.proofs.Common.{◌≡◌, ◌∙◌, ℕ, zero, suc, ◌+◌, ◌-◌, ◌≤◌, max, Bool, true, false, List, [], ◌∷◌, ◌++◌, map, length, refl, sym, ap, subst, append_assoc, append-nil, arith, ◌⊎◌, inl, inr}
-use Rattle.std.specs.Prelude.{Option, Some, None, Result, Ok, Err, if◌then◌else◌, option_to_list, flat_map}
+use Rattle.std.proofs.Common.{◌≡◌, ◌∙◌, ℕ, zero, suc, ◌+◌, ◌-◌, max, Bool, true, false, List, [], ◌∷◌, ◌++◌, length, refl, sym, ap, subst, append_assoc, append-nil, arith, ◌⊎◌, inl, inr}
+use Rattle.std.specs.Prelude.{Option, Some, None, Result, Ok, if◌then◌else◌, option_to_list, flat_map}
 use Rattle.wasm_ast.specs.declared.types.ValTy.{ValTy}
 use Rattle.wasm_ast.specs.declared.types.ValTy.TheVariants.{I32}
 use Rattle.wasm_ast.specs.declared.instructions.WInstr.{WInstr, out-WInstr}
@@ -8,18 +8,18 @@ use Rattle.wasm_ast.specs.declared.instructions.WInstr.TheOpen.{WInstr-F}
 use Rattle.wasm_ast.specs.Operations.{operation_in}
 use Rattle.wasm_typing.specs.declared.rule.WRule.{WRule}
 use Rattle.wasm_typing.specs.Contexts.{Context}
-use Rattle.wasm_typing.specs.Signatures.{Slot, Left, Gives, Anything, Signature, signature_in}
+use Rattle.wasm_typing.specs.Signatures.{Left, Gives, Anything, Signature, signature_in}
 use Rattle.wasm_typing.specs.Typing.{Applies, Labels, IsTyped, AreTyped, plain, block, loop, one_arm, two_arms, none, more, IsTypedBody}
-use Rattle.wasm_typing.specs.Tokens.{Token, Plain, OpensBlock, OpensLoop, OpensIf, Else, End, bare, tokens_in, tokens_of, code_of}
-use Rattle.wasm_typing.specs.ByteOrder.{Shape, Straight, Again, FirstArm, Open, labels, label_of, put, leads, Leads, start}
-use Rattle.wasm_typing.specs.Heights.{Met, count, met_left, met_plain, met_then, met_list, met_block, met_in, met_of, height_of}
-use Rattle.wasm_typing.specs.Points.{never_goes_on, reached_behind, reached, is_reached, standing, IsPoint, IsHeight}
+use Rattle.wasm_typing.specs.Tokens.{Token, Plain, OpensBlock, OpensLoop, OpensIf, Else, End, bare, tokens_in, tokens_of}
+use Rattle.wasm_typing.specs.ByteOrder.{Shape, Straight, Again, FirstArm, Open, labels, put, leads, Leads}
+use Rattle.wasm_typing.specs.Heights.{Met, count, met_left, met_plain, met_list, met_in, met_of, height_of}
+use Rattle.wasm_typing.specs.Points.{never_goes_on, reached_behind, reached, is_reached, standing, IsHeight}
 use Rattle.wasm_typing.proofs.HeightLayers.{met-layer}
 use Rattle.wasm_typing_laws.proofs.Steps.{Stacks}
 use Rattle.wasm_typing_laws.proofs.Join.{fresh, forth_one, forth_all}
 use Rattle.wasm_typing_laws.proofs.Layers.{signature-bare, plain-tokens, tokens-layer}
 use Rattle.wasm_typing_laws.proofs.LiveSignatures.{Sided, sided, goes-on, takes-some}
-use Rattle.wasm_typing_laws.proofs.HeightBounds.{standing-given, then-behind, height-bounds}
+use Rattle.wasm_typing_laws.proofs.HeightBounds.{standing-given, height-bounds}
 
 reached-append : (xs ys : List Token) (rs : List Bool) → reached (xs ++ ys) rs ≡ reached ys (reached xs rs)
 reached-append [] ys rs = refl

@@ -1,19 +1,18 @@
 -- What a signature says of whether its instruction goes on, and how many operands it takes and leaves.
-use Rattle.std.proofs.Common.{◌≡◌, ◌∙◌, ℕ, ◌+◌, ◌-◌, ◌≤◌, max, Bool, true, false, List, [], ◌∷◌, ◌++◌, map, length, slice_get, refl, sym, ap, subst, arith, ◌⊎◌, inl, inr, reverse}
-use Rattle.std.specs.Prelude.{Option, Some, None, Result, Ok, Err, option_to_list, option_map, nat_lt, nat_le, if◌then◌else◌}
+use Rattle.std.proofs.Common.{◌≡◌, ◌∙◌, ℕ, ◌+◌, ◌-◌, ◌≤◌, Bool, true, false, List, [], ◌∷◌, map, length, slice_get, refl, ap, subst, arith, reverse}
+use Rattle.std.specs.Prelude.{Option, Some, None, Result, Ok, Err, option_map, nat_lt, nat_le, if◌then◌else◌}
 use Rattle.std.proofs.lemmas.List.{length-append}
 use Rattle.wasm_ast.specs.declared.types.ValTy.{ValTy}
 use Rattle.wasm_ast.specs.declared.types.ValTy.TheVariants.{I32, I64}
-use Rattle.wasm_ast.specs.declared.types.FuncType.{FuncType}
 use Rattle.wasm_ast.specs.Operations.{Operation}
 use Rattle.wasm_ast.specs.Operations as op
 use Rattle.wasm_operators.specs.declared.CvtOp.TheVariants as convert
 use Rattle.wasm_typing.specs.declared.rule.WRule.{WRule}
 use Rattle.wasm_typing.specs.declared.rule.WRule.TheVariants.{TypeIndex, FuncIndex, TableIndex, MemoryIndex, GlobalIndex, LocalIndex, LabelIndex, ConstGlobal, Alignment, LabelTypes}
-use Rattle.wasm_typing.specs.Contexts.{Context, GlobalType}
+use Rattle.wasm_typing.specs.Contexts.{Context}
 use Rattle.wasm_typing.specs.Signatures.{Slot, The, Same, Left, Gives, Anything, Signature, ◌⇒◌, leaves, operands_of, found, needs, all_of, all_same, in_memory, signature_of}
 use Rattle.wasm_typing.specs.Typing.{Labels, fill, IsLeft, Applies}
-use Rattle.wasm_typing.specs.Heights.{Met, count, met_left, met_plain}
+use Rattle.wasm_typing.specs.Heights.{count}
 use Rattle.wasm_typing.specs.Points.{never_goes_on}
 
 -- whether an instruction never goes on, and what its signature leaves
