@@ -1,6 +1,5 @@
 -- How many steps were made: as many as were to be while the run is on its way, and never more.
 use Rattle.std.proofs.Common.{◌≡◌, ℕ, zero, suc, ◌≤◌, refl, ap, arith}
-use Rattle.machine_steps.specs.declared.End.{End}
 use Rattle.machine_steps.specs.Steps.{Turn, Went, Ended, NoStep, Going, Over, Stuck, reached_by, reached}
 
 module _ {E A : Type 0} (step : A → Turn E A) where

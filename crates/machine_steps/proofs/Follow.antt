@@ -5,7 +5,7 @@ use Rattle.std.proofs.lemmas.Bool.{cases_lt}
 use Rattle.machine_steps.specs.declared.End.{End}
 use Rattle.machine_steps.specs.declared.End.TheVariants.{Trap}
 use Rattle.machine_steps.specs.declared.Trap.TheVariants.{Exhausted}
-use Rattle.machine_steps.specs.Steps.{Turn, Went, Ended, NoStep, Stand, Going, Over, Stuck, Reached, onward, preceded, going, over, reached_by, reached}
+use Rattle.machine_steps.specs.Steps.{Turn, Went, Ended, NoStep, Going, Over, Stuck, Reached, onward, preceded, going, over, reached_by, reached}
 use Rattle.machine_steps.specs.Agreement.{IsSettled}
 use Rattle.machine_steps.specs.Simulations.{Comes, Within, Moves, Stops, Ends, Answers, Follows, Matches, Keeps, Exhausts, Throughout}
 

@@ -1,13 +1,11 @@
 -- A walk arrives by what is reached, and answers a step of the source.
-use Rattle.std.proofs.Common.{◌≡◌, ◌∙◌, ℕ, zero, suc, ◌<◌, ◌≤◌, List, [], ◌∷◌, ◌++◌, ◌⊎◌, refl, ap, sym, subst, ⊎_elim, arith, append_assoc}
+use Rattle.std.proofs.Common.{◌≡◌, ◌∙◌, ℕ, zero, suc, ◌<◌, ◌≤◌, List, [], ◌∷◌, ◌++◌, refl, ap, sym, subst, ⊎_elim, arith, append_assoc}
 use Rattle.std.proofs.lemmas.List.{append-nil}
 use Rattle.std.proofs.lemmas.Bool.{cases_lt}
 use Rattle.machine_steps.specs.declared.End.{End}
-use Rattle.machine_steps.specs.declared.End.TheVariants.{Trap}
-use Rattle.machine_steps.specs.declared.Trap.TheVariants.{Exhausted}
 use Rattle.machine_steps.specs.Steps.{Turn, Went, Ended, NoStep, Reached, onward, going, reached_by, reached}
-use Rattle.machine_steps.specs.Simulations.{Comes, Within, Stops, Ends, Answers}
-use Rattle.machine_steps.specs.Walks.{on_turn, Goes, Walk, Arrives, OnTheWay, StillAt, AtEnd}
+use Rattle.machine_steps.specs.Simulations.{Within, Stops, Ends, Answers}
+use Rattle.machine_steps.specs.Walks.{on_turn, Goes, Walk, Arrives, OnTheWay, AtEnd}
 
 module _ {E B : Type 0} (g : B → Turn E B) (P K : List E → B → Type 0) where
   -- a walk of no steps

@@ -124,6 +124,6 @@ pub fn walks_answer<S: Simulation>()
         → Stops S.fits S.meets S.holds S.source S.target S.related S.size ds ds' after es e b }
     ensures ends { (ds ds' : List S.Said) (last es : List S.Answer) (e : End) (b : S.Target)
         → Walk S.target (OnTheWay S.fits S.holds ds ds')
-            (λ l c. (AtEnd S.fits S.holds S.target (ds ++ ds') last e l c × OnTheWay S.fits S.holds ds ds' l c) × S.meets (ds ++ ds') (l ++ last)) es b
+        (λ l c. (AtEnd S.fits S.holds S.target (ds ++ ds') last e l c × OnTheWay S.fits S.holds ds ds' l c) × S.meets (ds ++ ds') (l ++ last)) es b
         → Ends S.fits S.meets S.holds S.source S.target S.related S.size ds ds' es e b }
 {}

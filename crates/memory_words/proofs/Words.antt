@@ -1,5 +1,5 @@
 -- Numbers and words in bytes, from what stands of the bytes.
-use Rattle.std.proofs.Common.{◌≡◌, ℕ, ◌+◌, ◌*◌, ◌%◌, ◌^◌, ◌<◌, ◌≤◌, ◌≢◌, ◌⊎◌, inl, inr, List, length, take, drop, sym, ap, ◌∙◌, subst, ⊎_elim, arith}
+use Rattle.std.proofs.Common.{◌≡◌, ℕ, ◌+◌, ◌*◌, ◌%◌, ◌^◌, ◌<◌, ◌≤◌, ◌≢◌, ◌⊎◌, inl, inr, List, length, take, drop, sym, ap, ◌∙◌, ⊎_elim, arith}
 use Rattle.std.proofs.lemmas.Bool.{cases_order}
 use Rattle.memory_words.specs.Memories.{little_endian, number_of, put, read, write, word}
 use Rattle.memory_words.proofs.Bytes.{length-little_endian, number_of-little_endian, length-put, put-same, put-low, put-high}
