@@ -38,13 +38,13 @@ module _ (e : Environment) where
   ]
 
   -- t.load and t.loadN_sx (4.4.4.1)
-  abbrev pub load : ValTy → Access → ℕ → Here → Config → Turn Event Config
-  load t access offset here c = with_one here.operands (λ base beneath. access_at (base + offset) (2 ^ access.log_width) here c
+  abbrev pub load_number : ValTy → Access → ℕ → Here → Config → Turn Event Config
+  load_number t access offset here c = with_one here.operands (λ base beneath. access_at (base + offset) (2 ^ access.log_width) here c
       (record c { here = record here { operands = loaded t access (read (2 ^ access.log_width) c.store.memory (base + offset)) ∷ beneath } }))
 
   -- t.store and t.storeN (4.4.4.2)
-  abbrev pub store : ℕ → ℕ → Here → Config → Turn Event Config
-  store log_width offset here c = with_two here.operands (λ base n beneath. access_at (base + offset) (2 ^ log_width) here c (record c {
+  abbrev pub store_number : ℕ → ℕ → Here → Config → Turn Event Config
+  store_number log_width offset here c = with_two here.operands (λ base n beneath. access_at (base + offset) (2 ^ log_width) here c (record c {
     here = record here { operands = beneath };
     store = record c.store { memory = write (2 ^ log_width) c.store.memory (base + offset) n };
   }))
