@@ -1,5 +1,5 @@
 -- Rows of what modules say, computed.
-use Rattle.std.proofs.Common.{[], refl}
+use Rattle.std.proofs.Common.{refl}
 use Rattle.wasm_ast.specs.declared.instructions.WInstr.{out-WInstr}
 use Rattle.wasm_execution.specs.EventRows.{AllocatorsTold, OthersNotTold, ArgumentKept, StopTold}
 

@@ -1,11 +1,11 @@
 -- Loads, stores and growth of a memory, by whether they lie within it; and a step that is known, before others.
-use Rattle.std.proofs.Common.{◌≡◌, ℕ, suc, ◌+◌, ◌*◌, ◌-◌, ◌^◌, ◌<◌, ◌≤◌, Bool, true, false, nat_le, List, [], ◌∷◌, ◌++◌, length, ap}
+use Rattle.std.proofs.Common.{◌≡◌, ℕ, suc, ◌+◌, ◌*◌, ◌-◌, ◌^◌, ◌<◌, ◌≤◌, Bool, true, false, List, [], ◌∷◌, ◌++◌, length, ap}
 use Rattle.std.proofs.lemmas.Bool.{le-leb, lt-leb}
 use Rattle.memory_words.specs.Memories.{zeros}
 use Rattle.machine_steps.specs.declared.End.{End}
 use Rattle.machine_steps.specs.declared.End.TheVariants.{Trap}
 use Rattle.machine_steps.specs.declared.Trap.TheVariants.{MemoryBounds}
-use Rattle.machine_steps.specs.Steps.{Turn, Went, Ended, onward, over, reached_by, reached}
+use Rattle.machine_steps.specs.Steps.{Went, Ended, onward, over, reached_by, reached}
 use Rattle.wasm_execution.specs.Configurations.{Here, Config, Event}
 use Rattle.wasm_execution.specs.Environments.{Environment}
 use Rattle.wasm_execution.specs.Turns.{leaves}

@@ -1,5 +1,5 @@
 -- Rows over a memory, computed but for its length and its bytes, which are known by their laws.
-use Rattle.std.proofs.Common.{◌≡◌, ◌∙◌, ℕ, ◌+◌, ◌-◌, ◌*◌, ◌/◌, ◌%◌, ◌^◌, ◌<◌, ◌≤◌, List, [], ◌∷◌, ◌++◌, length, refl, ap, arith, length-append}
+use Rattle.std.proofs.Common.{◌≡◌, ◌∙◌, ℕ, ◌+◌, ◌-◌, ◌/◌, ◌^◌, ◌<◌, ◌≤◌, List, [], ◌∷◌, ◌++◌, length, refl, ap, arith, length-append}
 use Rattle.memory_words.specs.Memories.{zeros, read, write}
 use Rattle.memory_words.proofs.Bytes.{length-zeros}
 use Rattle.memory_words.proofs.Words.{length-write, read-write}
@@ -10,7 +10,7 @@ use Rattle.wasm_ast.specs.declared.instructions.WInstr.{WInstr, out-WInstr}
 use Rattle.wasm_ast.specs.Operations.{with_sign, without_sign}
 use Rattle.machine_steps.specs.declared.End.TheVariants.{Trap}
 use Rattle.machine_steps.specs.declared.Trap.TheVariants.{MemoryBounds}
-use Rattle.machine_steps.specs.Steps.{Going, Over, Reached, onward, reached}
+use Rattle.machine_steps.specs.Steps.{Over, Reached, onward, reached}
 use Rattle.machine_steps.specs.Agreement.{Seen, seen}
 use Rattle.wasm_execution.specs.Configurations.{Here, Config, Event, TheEnd, prints}
 use Rattle.wasm_execution.specs.Environments.{Environment, environment_of}

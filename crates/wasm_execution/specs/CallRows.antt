@@ -1,6 +1,6 @@
 -- Modules whose `main` calls through a table, with what they come to after so many steps (this project's own rows; the expected
 -- numbers come from an independent model).
-use Rattle.std.specs.Prelude.{◌≡◌, ℕ, List, [], ◌∷◌, ◌++◌, Some, None, codes}
+use Rattle.std.specs.Prelude.{ℕ, List, [], ◌∷◌, ◌++◌, Some, None, codes}
 use Rattle.wasm_ast.specs.declared.instructions.WInstr as w
 use Rattle.wasm_ast.specs.declared.types.ValTy.TheVariants.{I64}
 use Rattle.wasm_ast.specs.declared.modules.ExportKind.TheVariants as export_kind

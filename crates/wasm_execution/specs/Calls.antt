@@ -1,5 +1,5 @@
 -- What calls do (WebAssembly Core Specification 1.0, sections 4.4.5.9 to 4.4.5.11 and 4.4.7).
-use Rattle.std.specs.Prelude.{ℕ, ◌+◌, true, false, if◌then◌else◌, List, [], ◌∷◌, ◌++◌, Option, Some, None, length, reverse, replicate, slice_get}
+use Rattle.std.specs.Prelude.{ℕ, ◌+◌, true, false, if◌then◌else◌, List, [], ◌∷◌, ◌++◌, Some, None, length, reverse, replicate, slice_get}
 use Rattle.std.specs.Int.{cast_signed, w64}
 use Rattle.wasm_ast.specs.declared.modules.Code.{Code}
 use Rattle.wasm_ast.specs.declared.modules.LocalRun.{LocalRun}

@@ -3,7 +3,7 @@
 use Rattle.std.specs.Prelude.{ℕ, ◌^◌, ◌-◌, List, [], ◌∷◌, Some, None, codes}
 use Rattle.wasm_ast.specs.declared.instructions.WInstr as w
 use Rattle.wasm_ast.specs.declared.types.ValTy.{ValTy}
-use Rattle.wasm_ast.specs.declared.types.ValTy.TheVariants.{I32, I64}
+use Rattle.wasm_ast.specs.declared.types.ValTy.TheVariants.{I64}
 use Rattle.wasm_ast.specs.declared.modules.ExportKind.TheVariants as export_kind
 use Rattle.wasm_ast.specs.declared.modules.ImportKind.TheVariants as import_kind
 use Rattle.wasm_ast.specs.declared.modules.LocalRun.{LocalRun}

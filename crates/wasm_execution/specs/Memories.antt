@@ -57,8 +57,8 @@ module _ (e : Environment) where
   abbrev pub grow_memory : Here → Config → Turn Event Config
   grow_memory here c = with_one here.operands (λ n beneath. elim (nat_le (pages_of c.store.memory + n) e.most_pages) [
     | true ↦ Went [] (record c {
-        here = record here { operands = pages_of c.store.memory ∷ beneath };
-        store = record c.store { memory = c.store.memory ++ zeros (65536 * n) };
-      })
+      here = record here { operands = pages_of c.store.memory ∷ beneath };
+      store = record c.store { memory = c.store.memory ++ zeros (65536 * n) };
+    })
     | false ↦ leaves ((2 ^ 32 - 1) ∷ beneath) here c
   ])

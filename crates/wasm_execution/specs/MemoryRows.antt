@@ -1,6 +1,6 @@
 -- Modules whose `main` loads, stores and grows its memory, with what they come to after so many steps (this project's own rows;
 -- the expected numbers follow from the unit of a step).
-use Rattle.std.specs.Prelude.{ℕ, ◌-◌, ◌^◌, List, [], ◌∷◌, Some, None}
+use Rattle.std.specs.Prelude.{ℕ, ◌-◌, ◌^◌, List, [], ◌∷◌, Some}
 use Rattle.wasm_ast.specs.declared.instructions.WInstr as w
 use Rattle.wasm_ast.specs.declared.types.Limits.{Limits}
 use Rattle.wasm_ast.specs.declared.modules.WModule.{WModule}

@@ -1,6 +1,6 @@
 -- How a module begins to run: its instantiation, and the invocation of its start function and of its exported `main` (WebAssembly
 -- Core Specification 1.0, sections 4.5.4 and 4.5.5).
-use Rattle.std.specs.Prelude.{ℕ, zero, suc, ◌+◌, ◌*◌, Bool, true, false, nat_le, List, [], ◌∷◌, ◌++◌, Option, Some, None, length, map, take, drop, replicate, codes, slice_get}
+use Rattle.std.specs.Prelude.{ℕ, suc, ◌+◌, ◌*◌, Bool, true, false, nat_le, List, [], ◌∷◌, ◌++◌, Option, Some, None, length, map, take, drop, replicate, codes, slice_get}
 use Rattle.memory_words.specs.Memories.{zeros, put}
 use Rattle.wasm_ast.specs.declared.instructions.WInstr.{WInstr, out-WInstr}
 use Rattle.wasm_ast.specs.declared.instructions.WInstr.TheOpen.{WInstr-F}
