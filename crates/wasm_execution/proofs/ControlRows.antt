@@ -2,7 +2,7 @@
 use Rattle.std.proofs.Common.{refl}
 use Rattle.wasm_ast.specs.declared.instructions.WInstr.{out-WInstr}
 use Rattle.wasm_ast.specs.declared.instructions.WInstr.TheBlock
-use Rattle.wasm_execution.specs.ControlRows.{AloneTakes, BranchTakes, BranchIfTakes, LoopTakes, EndlessGoes, TableTakes, OneArmTakes, EmptyElseTakes, ReturnTakes, SelectTakes, DivisionsTrap}
+use Rattle.wasm_execution.specs.ControlRows.{AloneTakes, BranchTakes, BranchIfTakes, LoopTakes, EndlessGoes, TableTakes, OneArmTakes, EmptyElseTakes, ReturnTakes, SelectTakes, DivisionsTrap, StuckWithout}
 
 pub alone-takes : AloneTakes
 unfolding out-WInstr denote.Hole.Carrier.out TheBlock.shape-the_row-WInstr-0 TheBlock.shown-the_row-WInstr-0 TheBlock.hidden-the_row-WInstr-0 denote.Hole.Carrier.hidden denote.Hole.Carrier.shown
@@ -47,3 +47,7 @@ select-takes = (record { before = refl; after = refl }, record { before = refl; 
 pub divisions-trap : DivisionsTrap
 unfolding out-WInstr denote.Hole.Carrier.out TheBlock.shape-the_row-WInstr-0 TheBlock.shown-the_row-WInstr-0 TheBlock.hidden-the_row-WInstr-0 denote.Hole.Carrier.hidden denote.Hole.Carrier.shown
 divisions-trap = (record { before = refl; after = refl }, record { before = refl; after = refl })
+
+pub stuck-without : StuckWithout
+unfolding out-WInstr denote.Hole.Carrier.out TheBlock.shape-the_row-WInstr-0 TheBlock.shown-the_row-WInstr-0 TheBlock.hidden-the_row-WInstr-0 denote.Hole.Carrier.hidden denote.Hole.Carrier.shown
+stuck-without = (refl, refl, refl, refl, refl, refl)

@@ -12,7 +12,7 @@ use Rattle.machine_steps.specs.declared.End.TheVariants.{Trap}
 use Rattle.machine_steps.specs.declared.Trap.TheVariants.{MemoryBounds}
 use Rattle.machine_steps.specs.Steps.{Over, Reached, onward, reached}
 use Rattle.machine_steps.specs.Agreement.{Seen, seen}
-use Rattle.wasm_execution.specs.Configurations.{Here, Config, Event, TheEnd, prints}
+use Rattle.wasm_execution.specs.Configurations.{Here, Config, Event, TheEnd, prints, Called}
 use Rattle.wasm_execution.specs.Environments.{Environment, environment_of}
 use Rattle.wasm_execution.specs.Memories.{loaded, touches, pages_of}
 use Rattle.wasm_execution.specs.Calls.{entered}
@@ -20,6 +20,7 @@ use Rattle.wasm_execution.specs.Steps.{step}
 use Rattle.wasm_execution.specs.Starts.{first_store}
 use Rattle.wasm_execution.specs.Rows.{Takes, number}
 use Rattle.wasm_execution.specs.MemoryRows.{over_memory, pages, past_end, over_end, storing, growing, grown_size, LoadTraps, StoreTraps, StoreTakes, GrowTakes, GrowFails, SizeTakes}
+use Rattle.wasm_execution.specs.EventRows.{loading, TouchTold, InsideNotTold}
 use Rattle.wasm_execution.proofs.Memories.{accesses, access_traps, grown, grows, grows_not, went, ended}
 
 abbrev around : Limits → List WInstr → Environment
@@ -156,3 +157,30 @@ size-takes =
       before = ap (λ (r : Reached Event Config). seen prints (onward [] r)) (went e 3 c (grown e 1 [] here c) [] more);
       after = ap (λ (r : Reached Event Config). seen prints (onward [] r)) (went e 4 c (grown e 1 [] here c) [] more) ∙ ap ends_with two_pages;
     }
+
+pub touch-told : TouchTold
+unfolding out-WInstr denote.Hole.Carrier.out
+touch-told =
+    let e = around (pages 1 2) past_end in
+    let c = after 1 (pages 1 2) past_end in
+    let here : Here = record c.here { rest = [] } in
+    let next : Config = record c { here = record here { operands = loaded I64 (without_sign 3) (read 8 (zeros 65536) 65536) ∷ [] } } in
+    let out : length (zeros 65536) < 65536 + 8 = omega (arith, page) in
+    (_, refl, ap (λ (r : Reached Event Config). (onward [] r).said) (ended e 0 c c (touches e 1 65536 8) (Trap MemoryBounds) (access_traps e 65536 8 here c next out)))
+
+pub inside-not-told : InsideNotTold
+unfolding out-WInstr denote.Hole.Carrier.out
+inside-not-told =
+    let e = environment_of loading in
+    let first : Config = entered 4 (record { locals = []; body = w.I64Const 65536 ∷ w.Call 1 ∷ [] }) [] [] TheEnd (first_store loading) in
+    let c = (reached (step e) 4 first).at in
+    let here : Here = record c.here { rest = [] } in
+    let next : Config = record c { here = record here { operands = loaded I64 (without_sign 3) (read 8 (zeros 65536) 65536) ∷ [] } } in
+    let out : length (zeros 65536) < 65536 + 8 = omega (arith, page) in
+    let said = Called 1 65536 (first_store loading) ∷ [] in
+    (
+      first,
+      refl,
+      ap (λ (r : Reached Event Config). (onward [] (onward said (onward [] (onward [] r)))).said)
+      (ended e 0 c c (touches e 1 65536 8) (Trap MemoryBounds) (access_traps e 65536 8 here c next out)),
+    )

@@ -1,7 +1,7 @@
 -- How modules start, computed.
 use Rattle.std.proofs.Common.{refl}
 use Rattle.wasm_ast.specs.declared.instructions.WInstr.{out-WInstr}
-use Rattle.wasm_execution.specs.StartRows.{StartTakes, StartTraps, TrapCodesCount, UnknownImports, SegmentsOut, NoMains}
+use Rattle.wasm_execution.specs.StartRows.{StartTakes, StartTraps, TrapCodesCount, UnknownImports, SegmentsOut, NoMains, NumberKept}
 
 pub start-takes : StartTakes
 unfolding out-WInstr denote.Hole.Carrier.out
@@ -26,3 +26,7 @@ segments-out = (refl, refl, refl, refl, refl)
 pub no-mains : NoMains
 unfolding out-WInstr denote.Hole.Carrier.out
 no-mains = (refl, refl, refl, refl)
+
+pub number-kept : NumberKept
+unfolding out-WInstr denote.Hole.Carrier.out
+number-kept = record { before = refl; after = refl }

@@ -1,5 +1,5 @@
 -- Modules whose `main` runs over blocks, loops, arms, branches and numbers, with what they come to after so many steps (this
--- project's own rows; the expected numbers come from an independent model).
+-- project's own rows; the expected numbers come from an independent model, or from the unit of a step).
 use Rattle.std.specs.Prelude.{ℕ, ◌^◌, ◌-◌, List, [], ◌∷◌, Some, None, codes}
 use Rattle.wasm_ast.specs.declared.instructions.WInstr as w
 use Rattle.wasm_ast.specs.declared.types.ValTy.{ValTy}
@@ -10,7 +10,7 @@ use Rattle.wasm_ast.specs.declared.modules.LocalRun.{LocalRun}
 use Rattle.wasm_ast.specs.declared.modules.WModule.{WModule}
 use Rattle.machine_steps.specs.declared.End.TheVariants.{Trap}
 use Rattle.machine_steps.specs.declared.Trap.TheVariants.{DivideByZero, Overflow}
-use Rattle.wasm_execution.specs.Rows.{IsGoing, Takes, number}
+use Rattle.wasm_execution.specs.Rows.{IsGoing, IsStuck, Takes, number}
 
 -- function 0 is the host's print; function 1 is `main`, with these locals and this body
 abbrev pub main_over : List LocalRun → List w.WInstr → WModule
@@ -101,3 +101,14 @@ abbrev pub DivisionsTrap : Type 0
 DivisionsTrap =
     Takes (main_with (w.I32Const (2 ^ 31) ∷ w.I32Const (2 ^ 32 - 1) ∷ w.I32DivS ∷ w.I64ExtendI32S ∷ [])) 3 [] (Trap Overflow)
     × Takes (main_with (w.I64Const 1 ∷ w.I64Const 0 ∷ w.I64DivU ∷ [])) 3 [] (Trap DivideByZero)
+
+-- a local or a global that is not there has no step, nor has the end of a block or of a body with an operand left over, nor a
+-- branch past the body
+abbrev pub StuckWithout : Type 0
+StuckWithout =
+    IsStuck (main_with (w.I64Const 1 ∷ w.LocalSet 0 ∷ w.I64Const 1 ∷ [])) 2
+    × IsStuck (main_with (w.I64Const 1 ∷ w.LocalTee 0 ∷ [])) 2
+    × IsStuck (main_with (w.I64Const 1 ∷ w.GlobalSet 0 ∷ w.I64Const 1 ∷ [])) 2
+    × IsStuck (main_with (w.Block None (w.I64Const 1 ∷ []) ∷ w.I64Const 1 ∷ [])) 3
+    × IsStuck (main_with (w.I64Const 1 ∷ w.I64Const 2 ∷ [])) 3
+    × IsStuck (main_with (w.I64Const 1 ∷ w.Br 1 ∷ [])) 2

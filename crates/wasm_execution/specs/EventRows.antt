@@ -6,11 +6,12 @@ use Rattle.wasm_ast.specs.declared.modules.ExportKind.TheVariants as export_kind
 use Rattle.wasm_ast.specs.declared.modules.WModule.{WModule}
 use Rattle.machine_steps.specs.declared.Trap.TheVariants.{Unreachable}
 use Rattle.machine_steps.specs.Steps.{reached}
-use Rattle.wasm_execution.specs.Configurations.{Config, Event, Called, Returned, Stopped}
+use Rattle.wasm_execution.specs.Configurations.{Config, Event, Called, Returned, Stopped, Touch}
 use Rattle.wasm_execution.specs.Environments.{environment_of}
 use Rattle.wasm_execution.specs.Steps.{step}
 use Rattle.wasm_execution.specs.Starts.{Begins, first_store, start_of}
 use Rattle.wasm_execution.specs.ControlRows.{main_with}
+use Rattle.wasm_execution.specs.MemoryRows.{over_memory, pages, past_end}
 
 -- functions 1 to 3 with the types of allocators, of which the last is of this type, and `main`
 abbrev pub allocating : ℕ → List w.WInstr → WModule
@@ -55,3 +56,23 @@ ArgumentKept =
 -- why the run was stopped
 abbrev pub StopTold : Type 0
 StopTold = Says (main_with (w.Unreachable ∷ [])) 1 (Stopped Unreachable ∷ [])
+
+-- a load outside the allocators, where it traps too
+abbrev pub TouchTold : Type 0
+TouchTold = Says (over_memory (pages 1 2) past_end) 2 (Touch 65536 8 ∷ [])
+
+-- function 1 loads at the address that it is called with
+abbrev pub loading : WModule
+loading = record (allocating 2 (w.I64Const 65536 ∷ w.Call 1 ∷ [])) {
+  memories = pages 1 2 ∷ [];
+  codes =
+      record { locals = []; body = w.LocalGet 0 ∷ w.I32WrapI64 ∷ w.I64Load 3 0 ∷ [] }
+      ∷ record { locals = []; body = [] }
+      ∷ record { locals = []; body = w.I64Const 4 ∷ [] }
+      ∷ record { locals = []; body = w.I64Const 65536 ∷ w.Call 1 ∷ [] }
+      ∷ [];
+}
+
+-- a load of an allocator is not told
+abbrev pub InsideNotTold : Type 0
+InsideNotTold = Says loading 5 (Called 1 65536 (first_store loading) ∷ [])

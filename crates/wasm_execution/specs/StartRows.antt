@@ -89,3 +89,12 @@ NoMains =
     × (start_of (record one { types = record { params = I64 ∷ []; result = None } ∷ record { params = []; result = None } ∷ [] }) ≡ NoMain)
     × (start_of (record one { exports = export (codes "main") export_kind.Func 0 ∷ [] }) ≡ NoMain)
     × (start_of (record (holding 1) { exports = export (codes "main") export_kind.Memory 0 ∷ [] }) ≡ NoMain)
+
+-- a function whose type is not there is none, and the one behind it keeps its number
+abbrev pub NumberKept : Type 0
+NumberKept =
+    Takes (record one {
+      funcs = 9 ∷ 1 ∷ [];
+      exports = export (codes "main") export_kind.Func 2 ∷ [];
+      codes = record { locals = []; body = [] } ∷ record { locals = []; body = w.I64Const 8 ∷ [] } ∷ [];
+    }) 2 [] (number 8)

@@ -3,11 +3,11 @@
 //! Rows that are computed stand beside them.
 #![tactic(auto)]
 
-ghost use Rattle.wasm_execution.specs.ControlRows.{AloneTakes, BranchTakes, BranchIfTakes, LoopTakes, EndlessGoes, TableTakes, OneArmTakes, EmptyElseTakes, ReturnTakes, SelectTakes, DivisionsTrap};
+ghost use Rattle.wasm_execution.specs.ControlRows.{AloneTakes, BranchTakes, BranchIfTakes, LoopTakes, EndlessGoes, TableTakes, OneArmTakes, EmptyElseTakes, ReturnTakes, SelectTakes, DivisionsTrap, StuckWithout};
 ghost use Rattle.wasm_execution.specs.CallRows.{SameTypeTakes, ArgumentTakes, PrintTakes, IndirectTraps};
 ghost use Rattle.wasm_execution.specs.MemoryRows.{LoadTraps, StoreTraps, StoreTakes, GrowTakes, GrowFails, SizeTakes};
-ghost use Rattle.wasm_execution.specs.EventRows.{AllocatorsTold, OthersNotTold, ArgumentKept, StopTold};
-ghost use Rattle.wasm_execution.specs.StartRows.{StartTakes, StartTraps, TrapCodesCount, UnknownImports, SegmentsOut, NoMains};
+ghost use Rattle.wasm_execution.specs.EventRows.{AllocatorsTold, OthersNotTold, ArgumentKept, StopTold, TouchTold, InsideNotTold};
+ghost use Rattle.wasm_execution.specs.StartRows.{StartTakes, StartTraps, TrapCodesCount, UnknownImports, SegmentsOut, NoMains, NumberKept};
 ghost use Rattle.wasm_execution.specs.Rows.{AddingTakes, DroppingTakes, ExhaustedTakes, PrintingTakes, StartingTakes};
 
 /// Rows: a module that prints 7 and gives 0 takes 12 steps, and where its start function prints 7 first 21; one that drops
@@ -22,7 +22,7 @@ pub fn modules_run()
 {}
 
 /// Rows: a module of one function; branches out of blocks, to a loop and by a table; arms that are entered and passed over;
-/// a return out of a block; a choice; and divisions that trap.
+/// a return out of a block; a choice; divisions that trap; and what has no step.
 pub fn lists_run()
     ensures alone { AloneTakes }
     ensures branch { BranchTakes }
@@ -35,6 +35,7 @@ pub fn lists_run()
     ensures returned { ReturnTakes }
     ensures select { SelectTakes }
     ensures divisions { DivisionsTrap }
+    ensures stuck { StuckWithout }
 {}
 
 /// Rows: calls through a table, of the host's function too, and their three traps.
@@ -55,7 +56,8 @@ pub fn memories_run()
     ensures size { SizeTakes }
 {}
 
-/// Rows: a start function before `main`; which global tells why the run was stopped; and why modules do not start.
+/// Rows: a start function before `main`; which global tells why the run was stopped; why modules do not start; and a
+/// function behind one that is not there.
 pub fn modules_start()
     ensures start { StartTakes }
     ensures start_traps { StartTraps }
@@ -63,13 +65,16 @@ pub fn modules_start()
     ensures imports { UnknownImports }
     ensures segments { SegmentsOut }
     ensures no_main { NoMains }
+    ensures number { NumberKept }
 {}
 
 /// Rows: the calls and returns of functions 1 to 3 where they have the allocators' types, and nothing where one has another;
-/// the first argument of a call after its local was set; and why a run was stopped.
+/// the first argument of a call after its local was set; why a run was stopped; and a load, but none of an allocator.
 pub fn events_are_told()
     ensures allocators { AllocatorsTold }
     ensures others { OthersNotTold }
     ensures argument { ArgumentKept }
     ensures stopped { StopTold }
+    ensures touched { TouchTold }
+    ensures inside { InsideNotTold }
 {}

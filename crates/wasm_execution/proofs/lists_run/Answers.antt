@@ -1,4 +1,4 @@
-use Rattle.wasm_execution.proofs.ControlRows.{alone-takes, branch-takes, branch-if-takes, loop-takes, endless-goes, table-takes, one-arm-takes, empty-else-takes, return-takes, select-takes, divisions-trap}
+use Rattle.wasm_execution.proofs.ControlRows.{alone-takes, branch-takes, branch-if-takes, loop-takes, endless-goes, table-takes, one-arm-takes, empty-else-takes, return-takes, select-takes, divisions-trap, stuck-without}
 use Rattle.wasm_execution.proofs.lists_run.Goals as goal
 
 pub returns-clause-alone : goal.returns-clause-alone
@@ -33,3 +33,6 @@ returns-clause-select c = select-takes
 
 pub returns-clause-divisions : goal.returns-clause-divisions
 returns-clause-divisions c = divisions-trap
+
+pub returns-clause-stuck : goal.returns-clause-stuck
+returns-clause-stuck c = stuck-without

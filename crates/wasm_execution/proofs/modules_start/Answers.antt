@@ -1,4 +1,4 @@
-use Rattle.wasm_execution.proofs.StartRows.{start-takes, start-traps, trap-codes-count, unknown-imports, segments-out, no-mains}
+use Rattle.wasm_execution.proofs.StartRows.{start-takes, start-traps, trap-codes-count, unknown-imports, segments-out, no-mains, number-kept}
 use Rattle.wasm_execution.proofs.modules_start.Goals as goal
 
 pub returns-clause-start : goal.returns-clause-start
@@ -18,3 +18,6 @@ returns-clause-segments c = segments-out
 
 pub returns-clause-no_main : goal.returns-clause-no_main
 returns-clause-no_main c = no-mains
+
+pub returns-clause-number : goal.returns-clause-number
+returns-clause-number c = number-kept
