@@ -177,10 +177,9 @@ inside-not-told =
     let here : Here = record c.here { rest = [] } in
     let next : Config = record c { here = record here { operands = loaded I64 (without_sign 3) (read 8 (zeros 65536) 65536) ∷ [] } } in
     let out : length (zeros 65536) < 65536 + 8 = omega (arith, page) in
-    let said = Called 1 65536 (first_store loading) ∷ [] in
-    (
+    let said = Called 1 65536 (first_store loading) ∷ [] in (
       first,
       refl,
       ap (λ (r : Reached Event Config). (onward [] (onward said (onward [] (onward [] r)))).said)
-      (ended e 0 c c (touches e 1 65536 8) (Trap MemoryBounds) (access_traps e 65536 8 here c next out)),
+          (ended e 0 c c (touches e 1 65536 8) (Trap MemoryBounds) (access_traps e 65536 8 here c next out)),
     )
