@@ -1,17 +1,17 @@
 -- Quotients and remainders are those of whole numbers: only the least number by -1 has a quotient that no signed reading is.
-use Rattle.std.proofs.Common.{◌≡◌, ℕ, zero, suc, ◌+◌, ◌-◌, ◌*◌, ◌/◌, ◌%◌, ◌^◌, ◌<◌, ◌≤◌, false, refl, sym, ◌∙◌, ap, ap₂, subst, inl, inr, arith}
-use Rattle.std.specs.Prelude.{ℤ, pos, negsuc, neg_ℤ, ◌+ℤ◌, ◌*ℤ◌, ◌≤ℤ◌, unsigned_abs, int_div, int_rem, Ok, ◌==◌, ◌&&◌}
+use Rattle.std.proofs.Common.{◌≡◌, ℕ, zero, suc, ◌+◌, ◌-◌, ◌*◌, ◌/◌, ◌%◌, ◌<◌, ◌≤◌, false, refl, sym, ◌∙◌, ap, ap₂, subst, inl, inr, arith}
+use Rattle.std.specs.Prelude.{ℤ, pos, negsuc, neg_ℤ, ◌≤ℤ◌, unsigned_abs, int_div, int_rem, ◌==◌}
 use Rattle.std.specs.Int.Signed.{mag, mag_rem}
-use Rattle.std.proofs.Math.Nat.{div-le_self, div-lt_self, div-one, le_trans, mod-lt, div-add-mod', zero-mod}
+use Rattle.std.proofs.Math.Nat.{div-le_self, div-lt_self, div-one, mod-lt, div-add-mod', zero-mod}
 use Rattle.std.proofs.lemmas.Int.{quot-rem, rem_below, ints}
 use Rattle.std.proofs.lemmas.Bool.{and_from, both_ways, eq-eqb, cases_lt}
 use Rattle.wasm_operators.specs.declared.Width.{Width}
 use Rattle.wasm_operators.specs.declared.Width.TheVariants.{W32, W64}
 use Rattle.wasm_num.specs.declared.NumTrap.TheVariants.{Overflow}
-use Rattle.wasm_num.specs.Widths.{bits_of, modulus, half, IsWithin, signed, residue}
-use Rattle.wasm_num.specs.Quotients.{overflows, divided_by, signed_quotient, signed_remainder}
+use Rattle.wasm_num.specs.Widths.{modulus, half, IsWithin, signed, residue}
+use Rattle.wasm_num.specs.Quotients.{overflows, divided_by}
 use Rattle.wasm_num.specs.Laws.{Divides, DividesSigned, DividesUnsigned}
-use Rattle.wasm_num.proofs.Answers.{passes, divides}
+use Rattle.wasm_num.proofs.Traps.{passes, divides}
 use Rattle.wasm_num.proofs.Signs.{signed-low, signed-high, signed-mag, signed-residue, residue-signed}
 
 mag-neg : (n k : ℕ) → n ≤ suc k → mag (neg_ℤ (pos n)) ≤ k

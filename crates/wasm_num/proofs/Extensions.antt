@@ -1,6 +1,6 @@
 -- An extension by the sign keeps the reading, since the readings of 32 bits are among those of 64.
-use Rattle.std.proofs.Common.{◌≡◌, ℕ, suc, ◌-◌, ◌%◌, ◌^◌, ◌<◌, ◌≤◌, refl, ◌∙◌, ap, inl, inr, arith}
-use Rattle.std.specs.Prelude.{ℤ, pos, negsuc}
+use Rattle.std.proofs.Common.{◌≡◌, ℕ, suc, ◌-◌, ◌%◌, ◌<◌, ◌≤◌, ◌∙◌, ap, inl, inr, arith}
+use Rattle.std.specs.Prelude.{pos, negsuc}
 use Rattle.std.specs.Int.Signed.{mag}
 use Rattle.std.proofs.lemmas.Bool.{cases_lt}
 use Rattle.wasm_operators.specs.declared.Width.TheVariants.{W32, W64}

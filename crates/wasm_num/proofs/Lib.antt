@@ -1,4 +1,3 @@
-pub mod Answers
 pub mod Counts
 pub mod Divisions
 pub mod Extensions
@@ -8,4 +7,5 @@ pub mod Ranges
 pub mod Rotations
 pub mod Rows
 pub mod Signs
+pub mod Traps
 pub mod Turns

@@ -1,12 +1,10 @@
 -- Where the highest and the lowest 1 stand, and operators digit by digit.
-use Rattle.std.proofs.Common.{◌≡◌, ℕ, zero, suc, ◌+◌, ◌-◌, ◌*◌, ◌/◌, ◌%◌, ◌^◌, ◌<◌, ◌≤◌, List, [], ◌∷◌, refl, sym, ◌∙◌, ap, ap₂, subst, arith}
-use Rattle.std.specs.Prelude.{min, max, bit_and, bit_or, bit_xor, reverse}
-use Rattle.std.proofs.Math.Nat.{pow-suc, mod-lt, mul-one, mul_assoc}
+use Rattle.std.proofs.Common.{◌≡◌, ℕ, zero, suc, ◌+◌, ◌*◌, ◌/◌, ◌%◌, ◌^◌, ◌<◌, List, ◌∷◌, refl, sym, ◌∙◌, ap, arith}
+use Rattle.std.specs.Prelude.{min, max, bit_and, bit_or, bit_xor}
+use Rattle.std.proofs.Math.Nat.{pow-suc, mul_assoc}
 use Rattle.std.proofs.lemmas.Nat.{leading_top, and_shr, or_shr, xor_shr, and_mod, or_mod, xor_mod, mod_below}
-use Rattle.std.specs.Int.Count.{count_leading_zeros}
-use Rattle.wasm_operators.specs.declared.Width.{Width}
-use Rattle.wasm_num.specs.Widths.{bits_of, IsWithin}
-use Rattle.wasm_num.specs.Counts.{digits_of, zeros_first, leading_zeros}
+use Rattle.wasm_num.specs.Widths.{bits_of}
+use Rattle.wasm_num.specs.Counts.{digits_of, zeros_first}
 use Rattle.wasm_num.specs.Laws.{StandsAroundOnes, ActsDigitByDigit}
 use Rattle.wasm_num.proofs.Counts.{leading-zeros_first}
 

@@ -1,8 +1,7 @@
 -- A quotient that is wrapped to 64 bits has the same residue: it lies within 2 ^ 63 of zero, and both widths divide 2 ^ 64.
-use Rattle.std.proofs.Common.{◌≡◌, ℕ, zero, suc, ◌+◌, ◌-◌, ◌/◌, ◌%◌, ◌^◌, ◌<◌, ◌≤◌, Bool, true, false, cond, refl, sym, ◌∙◌, ap, ap₂, subst, inl, inr, arith}
-use Rattle.std.specs.Prelude.{ℤ, pos, negsuc, neg_ℤ, unsigned_abs, int_div, Result, Ok, Err}
+use Rattle.std.proofs.Common.{◌≡◌, ℕ, zero, suc, ◌-◌, ◌/◌, ◌%◌, ◌^◌, ◌<◌, ◌≤◌, false, cond, refl, sym, ◌∙◌, ap, ap₂, subst, inl, inr, arith}
+use Rattle.std.specs.Prelude.{ℤ, pos, negsuc, neg_ℤ, unsigned_abs, int_div, Ok, Err}
 use Rattle.std.specs.Int.{w64, cast_signed, cast_unsigned}
-use Rattle.std.specs.Int.RustNames.{FitsSigned}
 use Rattle.std.specs.Int.Signed.{mag, nat_abs-le}
 use Rattle.std.proofs.Math.Nat.{div-le_self, le_trans}
 use Rattle.std.proofs.lemmas.Int.{to_z-of_z}
@@ -10,7 +9,6 @@ use Rattle.std.proofs.lemmas.Bool.{cases_lt, ne_eqb, lt-ltb, le-ltb}
 use mir.Val.{sel}
 use Rattle.wasm_operators.specs.declared.Width.{Width}
 use Rattle.wasm_operators.specs.declared.Width.TheVariants.{W32, W64}
-use Rattle.wasm_num.specs.declared.NumTrap.{NumTrap}
 use Rattle.wasm_num.specs.declared.NumTrap.TheVariants.{DivideByZero, Overflow}
 use Rattle.wasm_num.specs.Widths.{modulus, signed, residue}
 use Rattle.wasm_num.specs.Quotients.{overflows, divided_by, signed_quotient}

@@ -1,7 +1,7 @@
 -- Each operator's answer is an integer of its width.
-use Rattle.std.proofs.Common.{◌≡◌, ℕ, zero, suc, ◌+◌, ◌-◌, ◌*◌, ◌/◌, ◌%◌, ◌^◌, ◌<◌, ◌≤◌, List, [], ◌∷◌, length, refl, sym, ◌∙◌, ap, subst, arith, lit<}
-use Rattle.std.specs.Prelude.{ℤ, Ok, reverse, int_div, int_rem}
-use Rattle.std.proofs.Math.Nat.{div-le_self, mod-le, mod-lt}
+use Rattle.std.proofs.Common.{◌≡◌, ℕ, zero, suc, ◌+◌, ◌-◌, ◌*◌, ◌/◌, ◌%◌, ◌^◌, ◌≤◌, List, [], ◌∷◌, length, refl, ◌∙◌, ap, subst, arith}
+use Rattle.std.specs.Prelude.{Ok, reverse, int_div, int_rem}
+use Rattle.std.proofs.Math.Nat.{div-le_self, mod-le}
 use Rattle.std.proofs.lemmas.Nat.{or_lt, xor_lt, and_le_l, shr_le}
 use Rattle.std.proofs.lemmas.List.{length-reverse}
 use Rattle.wasm_operators.specs.declared.Width.{Width}
@@ -20,7 +20,7 @@ use Rattle.wasm_num.specs.Counts.{digits_of, zeros_first, ones_among}
 use Rattle.wasm_num.specs.Operators.{binary, unary, converted, width_from, width_to}
 use Rattle.wasm_num.specs.Laws.{StaysWithin}
 use Rattle.wasm_num.proofs.Signs.{mod-within, residue-within}
-use Rattle.wasm_num.proofs.Answers.{told, divides, passes}
+use Rattle.wasm_num.proofs.Traps.{told, divides, passes}
 use Rattle.wasm_num.proofs.Turns.{left-within, right-within}
 
 -- a number that is no greater

@@ -1,6 +1,6 @@
 -- A rotation joins two parts that share no digit, so that std's `or` of them is their sum.
-use Rattle.std.proofs.Common.{◌≡◌, ℕ, zero, suc, ◌+◌, ◌-◌, ◌*◌, ◌/◌, ◌%◌, ◌^◌, ◌<◌, ◌≤◌, bit_or, refl, sym, ◌∙◌, ap, ap₂, subst, add_comm, arith}
-use Rattle.std.proofs.Math.Nat.{mul-one, div-one, div-eq_of_lt, mod-eq_of_lt, mul-mod_left, mod-mod, mod_self, add-zero, sub-zero}
+use Rattle.std.proofs.Common.{◌≡◌, ℕ, zero, suc, ◌+◌, ◌-◌, ◌*◌, ◌/◌, ◌%◌, ◌^◌, ◌<◌, bit_or, refl, sym, ◌∙◌, ap, ap₂, subst, add_comm, arith}
+use Rattle.std.proofs.Math.Nat.{mul-one, div-one, div-eq_of_lt, mod-eq_of_lt, mul-mod_left, mod_self, add-zero, sub-zero}
 use Rattle.std.proofs.lemmas.Nat.{shr_below, or_shifted, or_comm, mod-pow-add, shl-shr}
 use Rattle.std.specs.Int.Bits.{or_self}
 use Rattle.wasm_operators.specs.declared.Width.{Width}

@@ -1,5 +1,5 @@
 -- A rotation exchanges the j highest and the k lowest digits, and so is undone by the one of k and j.
-use Rattle.std.proofs.Common.{◌≡◌, ℕ, ◌+◌, ◌-◌, ◌*◌, ◌/◌, ◌%◌, ◌^◌, ◌<◌, ◌≤◌, refl, sym, ◌∙◌, ap, ap₂, subst, add_comm, arith}
+use Rattle.std.proofs.Common.{◌≡◌, ℕ, ◌+◌, ◌-◌, ◌*◌, ◌/◌, ◌%◌, ◌^◌, ◌<◌, ◌≤◌, sym, ◌∙◌, ap, ap₂, subst, add_comm, arith}
 use Rattle.std.proofs.Math.Nat.{mul_comm}
 use Rattle.std.proofs.lemmas.Nat.{shr_below, shr_high, mod_low, shr_split, mod_below, pow_pos, pow-add, mul-add-lt}
 use Rattle.wasm_operators.specs.declared.Width.{Width}

@@ -4,7 +4,6 @@ use Rattle.wasm_operators.specs.declared.Width.{Width}
 use Rattle.wasm_operators.specs.declared.Width.TheVariants.{W32, W64}
 use Rattle.wasm_operators.specs.declared.UnOp.{UnOp}
 use Rattle.wasm_operators.specs.declared.BinOp.{BinOp}
-use Rattle.wasm_operators.specs.declared.CmpOp.{CmpOp}
 use Rattle.wasm_operators.specs.declared.CvtOp.{CvtOp}
 use Rattle.wasm_operators.specs.declared.CvtOp.TheVariants.{Wrap, ExtendS}
 use Rattle.wasm_num.specs.Widths.{bits_of, IsWithin, signed}

@@ -1,5 +1,5 @@
 -- What each operator gives (WebAssembly Core Specification 1.0, section 4.3.2).
-use Rattle.std.specs.Prelude.{ℕ, ◌+◌, ◌-◌, ◌*◌, ◌%◌, ◌^◌, ◌<◌, Bool, true, false, not, ◌==◌, nat_lt, nat_le, Result, Ok, Err, bit_and, bit_or, bit_xor, int_lt, int_le}
+use Rattle.std.specs.Prelude.{ℕ, ◌+◌, ◌-◌, ◌*◌, ◌%◌, Bool, true, false, not, ◌==◌, nat_lt, nat_le, Result, Ok, bit_and, bit_or, bit_xor, int_lt, int_le}
 use Rattle.wasm_operators.specs.declared.Width.{Width}
 use Rattle.wasm_operators.specs.declared.Width.TheVariants.{W32, W64}
 use Rattle.wasm_operators.specs.declared.UnOp.{UnOp}
@@ -11,7 +11,7 @@ use Rattle.wasm_operators.specs.declared.CmpOp.TheVariants.{Eq, Ne, LtS, LtU, Gt
 use Rattle.wasm_operators.specs.declared.CvtOp.{CvtOp}
 use Rattle.wasm_operators.specs.declared.CvtOp.TheVariants.{Wrap, ExtendS, ExtendU}
 use Rattle.wasm_num.specs.declared.NumTrap.{NumTrap}
-use Rattle.wasm_num.specs.Widths.{modulus, IsWithin, signed, residue}
+use Rattle.wasm_num.specs.Widths.{modulus, signed, residue}
 use Rattle.wasm_num.specs.Quotients.{signed_quotient, unsigned_quotient, signed_remainder, unsigned_remainder}
 use Rattle.wasm_num.specs.Digits.{shifted_left, signed_shifted_right, unsigned_shifted_right, rotated_left, rotated_right}
 use Rattle.wasm_num.specs.Counts.{leading_zeros, trailing_zeros, ones}

@@ -1,12 +1,12 @@
 -- Answers that an independent model gives, at the ends of each range (this project's own rows).
-use Rattle.std.specs.Prelude.{◌≡◌, ℕ, Bool, true, false, Result, Ok, Err}
+use Rattle.std.specs.Prelude.{◌≡◌, true, false, Ok, Err}
 use Rattle.wasm_operators.specs.declared.Width.TheVariants.{W32, W64}
 use Rattle.wasm_operators.specs.declared.UnOp.TheVariants.{Clz, Ctz, Popcnt}
 use Rattle.wasm_operators.specs.declared.BinOp.TheVariants.{Add, Sub, Mul, DivS, DivU, RemS, RemU, And, Or, Xor, Shl, ShrS, ShrU, Rotl, Rotr}
 use Rattle.wasm_operators.specs.declared.CmpOp.TheVariants.{Eq, Ne, LtS, LtU, GtS, GtU, LeS, LeU, GeS, GeU}
 use Rattle.wasm_operators.specs.declared.CvtOp.TheVariants.{Wrap, ExtendS, ExtendU}
 use Rattle.wasm_num.specs.declared.NumTrap.TheVariants.{DivideByZero, Overflow}
-use Rattle.wasm_num.specs.Operators.{binary, unary, compares, truth, converted}
+use Rattle.wasm_num.specs.Operators.{binary, unary, compares, converted}
 
 -- sums, products and divisions
 abbrev pub ArithmeticRows : Type 0

@@ -94,81 +94,66 @@ fn operation_named(name: &str) -> Option<Operation> {
     if name == "eqz" {
         return Some(Operation::Eqz);
     }
-    if let Some(op) = unary(name) {
+    if let Some(op) = entry(&UNARY, name) {
         return Some(Operation::Unary(op));
     }
-    if let Some(op) = comparison(name) {
+    if let Some(op) = entry(&COMPARISONS, name) {
         return Some(Operation::Comparison(op));
     }
-    if let Some(op) = conversion(name) {
+    if let Some(op) = entry(&CONVERSIONS, name) {
         return Some(Operation::Conversion(op));
     }
-    Some(Operation::Binary(binary(name)?))
+    Some(Operation::Binary(entry(&BINARY, name)?))
 }
 
-fn unary(name: &str) -> Option<UnOp> {
-    match name {
-        "clz" => Some(UnOp::Clz),
-        "ctz" => Some(UnOp::Ctz),
-        "popcnt" => Some(UnOp::Popcnt),
-        _ => None,
+fn entry<T: Copy>(table: &[(&str, T)], name: &str) -> Option<T> {
+    for row in table {
+        if row.0 == name {
+            return Some(row.1);
+        }
     }
+    None
 }
 
-fn conversion(name: &str) -> Option<CvtOp> {
-    match name {
-        "wrap_i64" => Some(CvtOp::Wrap),
-        "extend_i32_s" => Some(CvtOp::ExtendS),
-        "extend_i32_u" => Some(CvtOp::ExtendU),
-        _ => None,
-    }
-}
+const UNARY: [(&str, UnOp); 3] = [
+    ("clz", UnOp::Clz),
+    ("ctz", UnOp::Ctz),
+    ("popcnt", UnOp::Popcnt),
+];
 
-fn comparison(name: &str) -> Option<CmpOp> {
-    match name {
-        "eq" => Some(CmpOp::Eq),
-        "ne" => Some(CmpOp::Ne),
-        "lt_s" => Some(CmpOp::LtS),
-        "lt_u" => Some(CmpOp::LtU),
-        "gt_s" => Some(CmpOp::GtS),
-        "gt_u" => Some(CmpOp::GtU),
-        "le_s" => Some(CmpOp::LeS),
-        "le_u" => Some(CmpOp::LeU),
-        "ge_s" => Some(CmpOp::GeS),
-        "ge_u" => Some(CmpOp::GeU),
-        _ => None,
-    }
-}
+const CONVERSIONS: [(&str, CvtOp); 3] = [
+    ("wrap_i64", CvtOp::Wrap),
+    ("extend_i32_s", CvtOp::ExtendS),
+    ("extend_i32_u", CvtOp::ExtendU),
+];
 
-fn binary(name: &str) -> Option<BinOp> {
-    match name {
-        "add" => Some(BinOp::Add),
-        "sub" => Some(BinOp::Sub),
-        "mul" => Some(BinOp::Mul),
-        "and" => Some(BinOp::And),
-        "or" => Some(BinOp::Or),
-        "xor" => Some(BinOp::Xor),
-        _ => division(name),
-    }
-}
+const COMPARISONS: [(&str, CmpOp); 10] = [
+    ("eq", CmpOp::Eq),
+    ("ne", CmpOp::Ne),
+    ("lt_s", CmpOp::LtS),
+    ("lt_u", CmpOp::LtU),
+    ("gt_s", CmpOp::GtS),
+    ("gt_u", CmpOp::GtU),
+    ("le_s", CmpOp::LeS),
+    ("le_u", CmpOp::LeU),
+    ("ge_s", CmpOp::GeS),
+    ("ge_u", CmpOp::GeU),
+];
 
-fn division(name: &str) -> Option<BinOp> {
-    match name {
-        "div_s" => Some(BinOp::DivS),
-        "div_u" => Some(BinOp::DivU),
-        "rem_s" => Some(BinOp::RemS),
-        "rem_u" => Some(BinOp::RemU),
-        _ => shift(name),
-    }
-}
-
-fn shift(name: &str) -> Option<BinOp> {
-    match name {
-        "shl" => Some(BinOp::Shl),
-        "shr_s" => Some(BinOp::ShrS),
-        "shr_u" => Some(BinOp::ShrU),
-        "rotl" => Some(BinOp::Rotl),
-        "rotr" => Some(BinOp::Rotr),
-        _ => None,
-    }
-}
+const BINARY: [(&str, BinOp); 15] = [
+    ("add", BinOp::Add),
+    ("sub", BinOp::Sub),
+    ("mul", BinOp::Mul),
+    ("div_s", BinOp::DivS),
+    ("div_u", BinOp::DivU),
+    ("rem_s", BinOp::RemS),
+    ("rem_u", BinOp::RemU),
+    ("and", BinOp::And),
+    ("or", BinOp::Or),
+    ("xor", BinOp::Xor),
+    ("shl", BinOp::Shl),
+    ("shr_s", BinOp::ShrS),
+    ("shr_u", BinOp::ShrU),
+    ("rotl", BinOp::Rotl),
+    ("rotr", BinOp::Rotr),
+];
