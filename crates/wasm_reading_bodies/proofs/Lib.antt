@@ -5,4 +5,5 @@ pub mod ExactPlain
 pub mod Spelled
 pub mod ExactBlocks
 pub mod ExactBodies
+pub mod OneForm
 pub mod Bodies

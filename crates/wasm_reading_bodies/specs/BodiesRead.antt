@@ -1,13 +1,13 @@
 -- The readers of instructions read exactly what the grammar spells (WebAssembly Core Specification 1.0, section 5.4),
 -- within the nesting of the profile.
-use Rattle.std.specs.Prelude.{◌≡◌, ℕ, ◌-◌, Bool, true, false, List, Some}
+use Rattle.std.specs.Prelude.{◌≡◌, ℕ, ◌-◌, ◌≤◌, Bool, true, false, List, ◌++◌, Some}
 use Rattle.wasm_ast.specs.declared.instructions.WInstr.{WInstr}
 use Rattle.wasm_ast.specs.Opcodes.{opcode_of}
 use Rattle.wasm_ast.specs.Immediates.{immediate_of}
 use Rattle.wasm_grammar.specs.Nesting.{nesting, nesting_limit, NestsAtMost}
 use Rattle.wasm_grammar.specs.ProfileInstructions.{ImmediateFits, IsConstant}
 use Rattle.wasm_grammar.specs.GrammarValues.{◌followed_by◌, IsByte}
-use Rattle.wasm_grammar.specs.GrammarInstructions.{IsImmediate, IsInstructions}
+use Rattle.wasm_grammar.specs.GrammarInstructions.{IsImmediate, IsInstruction, IsInstructions}
 use Rattle.wasm_reading.specs.ReadInstructions.{Listed, kind_of, plain_at, instructions_at}
 use Rattle.wasm_reading_values.specs.Exactness.{ExactIn, Exact}
 
@@ -35,3 +35,8 @@ ListsReadExactly =
 -- the instruction of a constant expression opens no block
 abbrev pub ConstantsNestNone : Type 0
 ConstantsNestNone = (w : WInstr) → IsConstant w → nesting w ≡ 0
+
+-- no spelling of an instruction within the nesting of the profile begins another one, and each spells one instruction
+abbrev pub InstructionsHaveOneForm : Type 0
+InstructionsHaveOneForm =
+    (w z : WInstr) (a b u v : List ℕ) → nesting w ≤ nesting_limit → nesting z ≤ nesting_limit → IsInstruction w a → IsInstruction z b → a ++ u ≡ b ++ v → (a ≡ b) × (w ≡ z)

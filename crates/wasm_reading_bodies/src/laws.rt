@@ -1,7 +1,7 @@
 // Laws of reading: instructions, expressions and the entries that have them are read exactly where the grammar
 // spells them.
 
-ghost use Rattle.wasm_reading_bodies.specs.BodiesRead.{PlainReadExactly, ListsReadExactly, ConstantsNestNone};
+ghost use Rattle.wasm_reading_bodies.specs.BodiesRead.{ConstantsNestNone, InstructionsHaveOneForm, ListsReadExactly, PlainReadExactly};
 ghost use Rattle.wasm_reading_values.specs.EntriesRead.{CodeVectorsReadExactly, CodesReadExactly, ConstantsReadExactly, ElementsReadExactly, ExpressionsReadExactly, GlobalsReadExactly, SegmentsReadExactly, ShortExpressionsFit};
 
 /// A law: instructions, lists of them, expressions and constant expressions are read exactly where the grammar
@@ -14,6 +14,12 @@ pub fn instructions_are_read_exactly()
     ensures short { ShortExpressionsFit }
     ensures constant { ConstantsReadExactly }
     ensures constant_nesting { ConstantsNestNone }
+{}
+
+/// A law: no spelling of an instruction within the nesting of the profile begins another one, and each spells one
+/// instruction (WebAssembly Core Specification 1.0, section 5.4).
+pub fn instructions_have_one_form()
+    ensures { InstructionsHaveOneForm }
 {}
 
 /// A law: the entries of sections that have instructions are read exactly where the grammar spells entries of the

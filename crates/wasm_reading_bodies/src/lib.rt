@@ -3,4 +3,6 @@
 
 mod laws;
 
-pub use laws::{bodies_are_read_exactly, instructions_are_read_exactly};
+pub use laws::{
+    bodies_are_read_exactly, instructions_are_read_exactly, instructions_have_one_form,
+};
