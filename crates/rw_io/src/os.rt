@@ -1,6 +1,11 @@
 // The shelf over the system's files and a sink over any writer: the trusted edge. They tell no contents.
-ghost use Rattle.std.specs.Prelude.{None, ⊤, is_some};
-ghost use Rattle.rw_io.specs.States.{ShelfState, SinkState};
+ghost use Rattle.std.specs.Prelude.{◌≡◌, ◌≢◌, ◌≤◌, List, [], length, take, IfOk, OnOk, OnErr, IsErrOf, Ok, Some, None, true, false};
+ghost use Rattle.std.specs.Io.KnownBytes.{append_known};
+ghost use Rattle.rw_io.specs.Counts.{Rose};
+ghost use Rattle.rw_io.specs.CountedCalls.{CountsLoad, CountsCreate};
+ghost use Rattle.rw_io.specs.Files.{NamedFile};
+ghost use Rattle.rw_io.specs.Pieces.{taken};
+ghost use Rattle.rw_io.specs.States.{NoShelfCountFell, NoSinkCountFell, IsLoaded, begun, appended};
 
 use crate::{LoadError, PutError, Shelf, Sink};
 use std::alloc::Global;
@@ -29,8 +34,17 @@ pub struct OsSink<W: Write + Drop> {
 }
 
 impl<R: Files + Drop> OsShelf<R> {
+    ghost use Rattle.rw_io.specs.OsStates.{os_shelf_state};
+
     /// A shelf over these files, with nothing created.
-    pub fn new(rt: R) -> OsShelf<R> {
+    pub fn new(rt: R) -> OsShelf<R>
+        ensures { os_shelf_state result ≡ record {
+            holding = record { files = None; created = None; has_created = false };
+            load_faults = 0;
+            put_faults = 0;
+            stalls = 0;
+        } }
+    {
         OsShelf {
             rt,
             created: None,
@@ -50,16 +64,20 @@ fn read_front<R: Files>(rt: &R, alloc: Global, name: &str, limit: u32) -> io::Re
 }
 
 impl<R: Files + Drop> Shelf for OsShelf<R> {
-    ghost state = { λ shelf. record {
-      holding = record { files = None; created = None; has_created = is_some shelf.created };
-      load_faults = shelf.load_faults;
-      put_faults = shelf.put_faults;
-      stalls = shelf.stalls;
-    } };
+    ghost use Rattle.rw_io.specs.OsStates.{os_shelf_state, os_appends};
 
-    ghost appends = { λ _ _ _ _. ⊤ };
+    ghost state = { os_shelf_state };
 
-    fn load(&mut self, alloc: Global, name: &str, limit: u32) -> Result<Vec<u8>, LoadError> {
+    ghost appends = { os_appends };
+
+    fn load(&mut self, alloc: Global, name: &str, limit: u32) -> Result<Vec<u8>, LoadError>
+        ensures told { (files : List NamedFile) → (os_shelf_state self.old).holding.files ≡ Some files → IsLoaded files name.now limit result }
+        ensures within { IfOk result (λ bytes. length bytes.items ≤ limit) }
+        ensures failed { IsErrOf result LoadError.Failed → Rose (os_shelf_state self.old).load_faults (os_shelf_state self.new).load_faults }
+        ensures same { (os_shelf_state self.new).holding ≡ (os_shelf_state self.old).holding }
+        ensures counts { NoShelfCountFell (os_shelf_state self.old) (os_shelf_state self.new) }
+        ensures counted { CountsLoad result (os_shelf_state self.old) (os_shelf_state self.new) }
+    {
         match read_front(&self.rt, alloc, name, limit) {
             Ok(bytes) if bytes.len() > limit as usize => Err(LoadError::TooLong),
             Ok(bytes) => Ok(bytes),
@@ -74,7 +92,13 @@ impl<R: Files + Drop> Shelf for OsShelf<R> {
         }
     }
 
-    fn create(&mut self, name: &str) -> Result<(), PutError> {
+    fn create(&mut self, name: &str) -> Result<(), PutError>
+        ensures created { OnOk result ((os_shelf_state self.new).holding ≡ begun name.now (os_shelf_state self.old).holding) }
+        ensures same { OnErr result ((os_shelf_state self.new).holding ≡ (os_shelf_state self.old).holding) }
+        ensures failed { IsErrOf result PutError.Failed → Rose (os_shelf_state self.old).put_faults (os_shelf_state self.new).put_faults }
+        ensures counts { NoShelfCountFell (os_shelf_state self.old) (os_shelf_state self.new) }
+        ensures counted { CountsCreate result (os_shelf_state self.old) (os_shelf_state self.new) }
+    {
         match fs::create(&self.rt, name) {
             Ok(file) => {
                 self.created = Some(file);
@@ -112,8 +136,12 @@ impl<R: Files + Drop> Shelf for OsShelf<R> {
 }
 
 impl<W: Write + Drop> OsSink<W> {
+    ghost use Rattle.rw_io.specs.OsStates.{os_sink_state};
+
     /// A sink over this writer.
-    pub fn new(writer: W) -> OsSink<W> {
+    pub fn new(writer: W) -> OsSink<W>
+        ensures { os_sink_state result ≡ record { bytes = None; faults = 0; stalls = 0 } }
+    {
         OsSink {
             writer,
             faults: 0,
@@ -123,9 +151,11 @@ impl<W: Write + Drop> OsSink<W> {
 }
 
 impl<W: Write + Drop> Sink for OsSink<W> {
-    ghost state = { λ sink. record { bytes = None; faults = sink.faults; stalls = sink.stalls } };
+    ghost use Rattle.rw_io.specs.OsStates.{os_sink_state, os_puts};
 
-    ghost puts = { λ _ _ _ _. ⊤ };
+    ghost state = { os_sink_state };
+
+    ghost puts = { os_puts };
 
     fn put(&mut self, piece: &[u8]) -> Result<usize, PutError> {
         match self.writer.write(piece) {
