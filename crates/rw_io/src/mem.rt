@@ -9,6 +9,7 @@ ghost use Rattle.rw_io.specs.States.{ShelfState, SinkState, NoShelfCountFell, No
 ghost use Rattle.rw_io.specs.CountedCalls.{CountsLoad, CountsCreate, stalls_after_put};
 ghost use Rattle.rw_io.specs.MemForms.{Plan, named_files, next_plan};
 
+use crate::counts::{count, count_stall};
 use crate::{LoadError, PutError, Shelf, Sink};
 use std::alloc::Global;
 
@@ -47,14 +48,6 @@ fn is_to_fail(fails: &[u64], calls: &mut u64) -> bool
     fails.contains(&call)
 }
 
-// One more, up to the last value.
-fn count(counter: &mut u64)
-    ensures next { counter.new ≡ raised counter.old }
-    ensures later { counter.old ≤ counter.new }
-{
-    *counter = counter.saturating_add(1);
-}
-
 // The content of the first file of that name.
 fn find<'a>(files: &'a [(String, Vec<u8>)], name: &str) -> Option<&'a [u8]>
     ensures { option_copied result ≡ content_of (named_files files.now) name.now }
@@ -83,9 +76,7 @@ fn take_front(
     let taken = piece.len().min(most);
     match bytes.extend_from_slice(&piece[..taken]) {
         Ok(()) => {
-            if taken == 0 && !piece.is_empty() {
-                count(stalls);
-            }
+            count_stall(taken, piece, stalls);
             Ok(taken)
         }
         Err(_) => Err(PutError::Memory),
@@ -142,6 +133,27 @@ impl MemShelf {
             Some(file) => Some(file.1.as_slice()),
             None => None,
         }
+    }
+
+    /// How many loads failed.
+    pub fn load_faults(&self) -> u64
+        ensures { result ≡ (shelf_state self.now).load_faults }
+    {
+        self.load_faults
+    }
+
+    /// How many creates and appends failed.
+    pub fn put_faults(&self) -> u64
+        ensures { result ≡ (shelf_state self.now).put_faults }
+    {
+        self.put_faults
+    }
+
+    /// How many appends stalled.
+    pub fn stalls(&self) -> u64
+        ensures { result ≡ (shelf_state self.now).stalls }
+    {
+        self.stalls
     }
 }
 
@@ -250,6 +262,20 @@ impl MemSink {
         ensures { (sink_state self.now).bytes ≡ Some result.now }
     {
         &self.bytes
+    }
+
+    /// How many puts failed.
+    pub fn faults(&self) -> u64
+        ensures { result ≡ (sink_state self.now).faults }
+    {
+        self.faults
+    }
+
+    /// How many puts stalled.
+    pub fn stalls(&self) -> u64
+        ensures { result ≡ (sink_state self.now).stalls }
+    {
+        self.stalls
     }
 }
 

@@ -1,12 +1,11 @@
 // The shelf over the system's files and a sink over any writer: the trusted edge. They tell no contents.
-ghost use Rattle.std.specs.Prelude.{◌≡◌, ◌≢◌, ◌≤◌, List, [], length, take, IfOk, OnOk, OnErr, IsErrOf, Ok, Some, None, true, false};
-ghost use Rattle.std.specs.Io.KnownBytes.{append_known};
+ghost use Rattle.std.specs.Prelude.{◌≡◌, ◌≤◌, List, length, IfOk, IfErr, OnOk, OnErr, IsErrOf, Some, None, false};
 ghost use Rattle.rw_io.specs.Counts.{Rose};
-ghost use Rattle.rw_io.specs.CountedCalls.{CountsLoad, CountsCreate};
+ghost use Rattle.rw_io.specs.CountedCalls.{CountsLoad, CountsCreate, faults_after, stalls_after_put};
 ghost use Rattle.rw_io.specs.Files.{NamedFile};
-ghost use Rattle.rw_io.specs.Pieces.{taken};
-ghost use Rattle.rw_io.specs.States.{NoShelfCountFell, NoSinkCountFell, IsLoaded, begun, appended};
+ghost use Rattle.rw_io.specs.States.{NoShelfCountFell, IsLoaded, begun};
 
+use crate::counts::{count, count_stall};
 use crate::{LoadError, PutError, Shelf, Sink};
 use std::alloc::Global;
 use std::io::{ErrorKind, Read, Write};
@@ -39,10 +38,10 @@ impl<R: Files + Drop> OsShelf<R> {
     /// A shelf over these files, with nothing created.
     pub fn new(rt: R) -> OsShelf<R>
         ensures { os_shelf_state result ≡ record {
-            holding = record { files = None; created = None; has_created = false };
-            load_faults = 0;
-            put_faults = 0;
-            stalls = 0;
+          holding = record { files = None; created = None; has_created = false };
+          load_faults = 0;
+          put_faults = 0;
+          stalls = 0;
         } }
     {
         OsShelf {
@@ -61,6 +60,32 @@ fn read_front<R: Files>(rt: &R, alloc: Global, name: &str, limit: u32) -> io::Re
     let mut bytes = Vec::new(alloc);
     file.take(u64::from(limit) + 1).read_to_end(&mut bytes)?;
     Ok(bytes)
+}
+
+// What a call answers that wrote a piece, with its failure or stall counted.
+fn answer_of(
+    written: io::Result<usize>,
+    piece: &[u8],
+    faults: &mut u64,
+    stalls: &mut u64,
+) -> Result<usize, PutError>
+    requires { IfOk written (λ count. count ≤ length piece.now) }
+    ensures bound { IfOk result (λ count. count ≤ length piece.now) }
+    ensures error { IfErr result (λ error. error ≡ PutError.Failed) }
+    ensures faults { faults.new ≡ faults_after result faults.old }
+    ensures stalls { stalls.new ≡ stalls_after_put result piece.now stalls.old }
+    ensures later { (faults.old ≤ faults.new) × (stalls.old ≤ stalls.new) }
+{
+    match written {
+        Ok(taken) => {
+            count_stall(taken, piece, stalls);
+            Ok(taken)
+        }
+        Err(_) => {
+            count(faults);
+            Err(PutError::Failed)
+        }
+    }
 }
 
 impl<R: Files + Drop> Shelf for OsShelf<R> {
@@ -85,7 +110,7 @@ impl<R: Files + Drop> Shelf for OsShelf<R> {
                 ErrorKind::NotFound => Err(LoadError::Missing),
                 ErrorKind::OutOfMemory => Err(LoadError::Memory),
                 _ => {
-                    self.load_faults = self.load_faults.saturating_add(1);
+                    count(&mut self.load_faults);
                     Err(LoadError::Failed)
                 }
             },
@@ -108,7 +133,7 @@ impl<R: Files + Drop> Shelf for OsShelf<R> {
                 if e.kind() == ErrorKind::OutOfMemory {
                     return Err(PutError::Memory);
                 }
-                self.put_faults = self.put_faults.saturating_add(1);
+                count(&mut self.put_faults);
                 Err(PutError::Failed)
             }
         }
@@ -120,18 +145,7 @@ impl<R: Files + Drop> Shelf for OsShelf<R> {
         };
         let written = file.write(piece);
         self.created = Some(file);
-        match written {
-            Ok(count) => {
-                if count == 0 && !piece.is_empty() {
-                    self.stalls = self.stalls.saturating_add(1);
-                }
-                Ok(count)
-            }
-            Err(_) => {
-                self.put_faults = self.put_faults.saturating_add(1);
-                Err(PutError::Failed)
-            }
-        }
+        answer_of(written, piece, &mut self.put_faults, &mut self.stalls)
     }
 }
 
@@ -158,17 +172,7 @@ impl<W: Write + Drop> Sink for OsSink<W> {
     ghost puts = { os_puts };
 
     fn put(&mut self, piece: &[u8]) -> Result<usize, PutError> {
-        match self.writer.write(piece) {
-            Ok(count) => {
-                if count == 0 && !piece.is_empty() {
-                    self.stalls = self.stalls.saturating_add(1);
-                }
-                Ok(count)
-            }
-            Err(_) => {
-                self.faults = self.faults.saturating_add(1);
-                Err(PutError::Failed)
-            }
-        }
+        let written = self.writer.write(piece);
+        answer_of(written, piece, &mut self.faults, &mut self.stalls)
     }
 }

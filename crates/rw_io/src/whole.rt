@@ -53,7 +53,7 @@ impl Unwritten {
 }
 
 /// Puts a piece whole: it is offered as one piece, and then its rest, until a turn takes nothing of it.
-/// An error says why, and how many bytes at the end of the piece were not put.
+/// An error tells what the last call answered, and how many bytes at the end of the piece were not put.
 pub fn put_whole<O: Sink>(out: &mut O, piece: &[u8]) -> Result<(), Unwritten>
     ensures left { left_of result ≤ length piece.now }
     ensures not_done { IfErr result (λ unwritten. 0 < unwritten.left) }
@@ -77,7 +77,7 @@ pub fn put_whole<O: Sink>(out: &mut O, piece: &[u8]) -> Result<(), Unwritten>
 
 /// Appends a piece whole to what was created: it is offered as one piece, and then its rest, until a turn takes
 /// nothing of it.
-/// An error says why, and how many bytes at the end of the piece were not appended.
+/// An error tells what the last call answered, and how many bytes at the end of the piece were not appended.
 pub fn append_whole<S: Shelf>(shelf: &mut S, piece: &[u8]) -> Result<(), Unwritten>
     requires { (S.state shelf.old).holding.has_created ≡ true }
     ensures left { left_of result ≤ length piece.now }
