@@ -1,4 +1,4 @@
-use Rattle.std.proofs.Common.{ℕ, arith, refl, sym, subst, Ok, Err}
+use Rattle.std.proofs.Common.{arith, refl, sym, subst, Ok, Err}
 use Rattle.rw_io.specs.Whole.{OffersAll}
 use Rattle.rw_io.specs.declared.whole.Unwritten.{Unwritten}
 use Rattle.rw_io.proofs.Joined.{next_known}
