@@ -4,14 +4,14 @@ use Rattle.std.proofs.Math.Seq.{take-add}
 use Rattle.std.proofs.lemmas.Bool.{cases_lt}
 use Rattle.std.proofs.lemmas.List.{take_all}
 use Rattle.rw_io.specs.Pieces.{Answer, taken}
-use Rattle.rw_io.specs.Whole.{OffersAll, whole, turn, stopped}
+use Rattle.rw_io.specs.Whole.{Ending, OffersAll, whole, turn, stopped, left_of}
 use Rattle.rw_io.specs.Taken.{TakeTheFront}
 
 -- no more is left than was offered
-at_most : {S : Type 0} (calls : S → List ℕ → Answer → S → Type 0) (before after : S) (piece : List ℕ) (left : ℕ) → OffersAll calls before piece left after → left ≤ length piece
-at_most calls before after piece left (whole none all same) = omega (arith, all)
-at_most calls before after piece left (turn count next some goes rest) = omega (arith, at_most calls next after (drop count piece) left rest, length-drop count piece)
-at_most calls before after piece left (stopped answer none goes all some) = omega (arith, all)
+at_most : {S : Type 0} (calls : S → List ℕ → Answer → S → Type 0) (before after : S) (piece : List ℕ) (ending : Ending) → OffersAll calls before piece ending after → left_of ending ≤ length piece
+at_most calls before after piece ending (whole none all same) = omega (arith, ap left_of all)
+at_most calls before after piece ending (turn count next some goes rest) = omega (arith, at_most calls next after (drop count piece) ending rest, length-drop count piece)
+at_most calls before after piece ending (stopped answer none goes some end) = omega (arith, ap left_of end)
 
 none_of : (n : ℕ) (piece : List ℕ) → n ≡ 0 → take n piece ≡ []
 none_of n piece e = ap (λ (k : ℕ). take k piece) e
@@ -34,16 +34,16 @@ joined count left piece most = by_size (cases_lt (length piece) count)
 
 -- the pieces of the calls
 pub take_the_front : {S : Type 0} (calls : S → List ℕ → Answer → S → Type 0) → TakeTheFront calls
-take_the_front calls before after piece left (whole none all same) =
-    ([], same, sym (ap (λ (bytes : List ℕ). take (length piece - left) bytes) none ∙ take_all (length piece - left) [] (omega arith)))
-take_the_front calls before after piece left (turn count next some goes rest) =
-    let (pieces, more, are) = take_the_front calls next after (drop count piece) left rest in (
+take_the_front calls before after piece ending (whole none all same) =
+    ([], same, sym (ap (λ (bytes : List ℕ). take (length piece - left_of ending) bytes) none ∙ take_all (length piece - left_of ending) [] (omega arith)))
+take_the_front calls before after piece ending (turn count next some goes rest) =
+    let (pieces, more, are) = take_the_front calls next after (drop count piece) ending rest in (
       take count piece ∷ pieces,
       (piece, Ok count, next, goes, refl, more),
-      ap (λ (bytes : List ℕ). take count piece ++ bytes) are ∙ joined count left piece (at_most calls next after (drop count piece) left rest),
+      ap (λ (bytes : List ℕ). take count piece ++ bytes) are ∙ joined count (left_of ending) piece (at_most calls next after (drop count piece) ending rest),
     )
-take_the_front calls before after piece left (stopped answer none goes all some) = (
+take_the_front calls before after piece ending (stopped answer none goes some end) = (
   take (taken answer) piece ∷ [],
   (piece, answer, after, goes, refl, refl),
-  ap (λ (bytes : List ℕ). bytes ++ []) (none_of (taken answer) piece none) ∙ sym (none_of (length piece - left) piece (omega (arith, all))),
+  ap (λ (bytes : List ℕ). bytes ++ []) (none_of (taken answer) piece none) ∙ sym (none_of (length piece - left_of ending) piece (omega (arith, ap left_of end))),
 )

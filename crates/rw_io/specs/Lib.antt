@@ -2,7 +2,9 @@ pub mod Counts
 pub mod Files
 pub mod Pieces
 pub mod States
+pub mod CountedCalls
 pub mod Whole
 pub mod Taken
 pub mod MemForms
 pub mod MemStates
+pub mod OsStates

@@ -1,15 +1,9 @@
 -- What the forms in memory hold, and how they are told to fail; this project's own.
-use Rattle.std.specs.Prelude.{ℕ, List, [], ◌∷◌, ◌&&◌, ◌==◌, length, nat_lt, if◌then◌else◌, Vec, string_bytes}
+use Rattle.std.specs.Prelude.{ℕ, List, [], ◌∷◌, Vec, string_bytes}
 use Rattle.std.specs.declared.alloc.Global.{Global}
 use Rattle.std.specs.declared.option.Option.{Option}
 use Rattle.std.specs.declared.option.Option.TheVariants.{None, Some}
-use Rattle.std.specs.declared.result.Result.{Result}
-use Rattle.std.specs.declared.result.Result.TheVariants.{Ok, Err}
 use Rattle.std.specs.declared.string.String.{String}
-use Rattle.rw_io.specs.declared.error.LoadError.{LoadError}
-use Rattle.rw_io.specs.declared.error.LoadError.TheVariants.{Failed as LoadFailed}
-use Rattle.rw_io.specs.declared.error.PutError.{PutError}
-use Rattle.rw_io.specs.declared.error.PutError.TheVariants.{Failed}
 use Rattle.rw_io.specs.Counts.{raised}
 use Rattle.rw_io.specs.Files.{NamedFile}
 
@@ -38,22 +32,3 @@ pub record Plan : Type 0 where
 -- the plan after one more call
 abbrev pub next_plan : Plan → Plan
 next_plan plan = record { fails = plan.fails; most = plan.most; calls = raised plan.calls }
-
--- the count of stalls after so many bytes of a piece were taken
-abbrev pub stalls_after : ℕ → List ℕ → ℕ → ℕ
-stalls_after count piece stalls = if (count == 0) && nat_lt 0 (length piece) then raised stalls else stalls
-
--- the count of failures after a load
-abbrev pub faults_after_load : {T : Type 0} → Result T LoadError → ℕ → ℕ
-faults_after_load (Err LoadFailed) faults = raised faults
-faults_after_load _ faults = faults
-
--- the count of failures after a create, an append or a put
-abbrev pub faults_after : {T : Type 0} → Result T PutError → ℕ → ℕ
-faults_after (Err Failed) faults = raised faults
-faults_after _ faults = faults
-
--- the count of stalls after a put
-abbrev pub stalls_after_put : Result ℕ PutError → List ℕ → ℕ → ℕ
-stalls_after_put (Ok count) piece stalls = stalls_after count piece stalls
-stalls_after_put (Err _) piece stalls = stalls

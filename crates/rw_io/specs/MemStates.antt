@@ -3,6 +3,7 @@ use Rattle.std.specs.Prelude.{◌≡◌, ℕ, List, is_some}
 use Rattle.std.specs.declared.option.Option.TheVariants.{Some}
 use Rattle.rw_io.specs.declared.mem.MemShelf.{MemShelf}
 use Rattle.rw_io.specs.declared.mem.MemSink.{MemSink}
+use Rattle.rw_io.specs.CountedCalls.{CountsAppend, CountsPut}
 use Rattle.rw_io.specs.Pieces.{Answer}
 use Rattle.rw_io.specs.MemForms.{Plan, named_files, created_last, next_plan}
 use Rattle.rw_io.specs.States.{ShelfState, SinkState}
@@ -28,10 +29,10 @@ shelf_plan shelf = record { fails = shelf.fails.items; most = shelf.most; calls 
 abbrev pub sink_plan : MemSink → Plan
 sink_plan sink = record { fails = sink.fails.items; most = sink.most; calls = sink.calls }
 
--- an append to a shelf in memory counts as one call
+-- an append to a shelf in memory is one more call of its plan, and counts what happened
 abbrev pub mem_appends : MemShelf → List ℕ → Answer → MemShelf → Type 0
-mem_appends before piece answer after = shelf_plan after ≡ next_plan (shelf_plan before)
+mem_appends before piece answer after = (shelf_plan after ≡ next_plan (shelf_plan before)) × CountsAppend piece answer (shelf_state before) (shelf_state after)
 
--- a put to a sink in memory counts as one call
+-- a put to a sink in memory is one more call of its plan, and counts what happened
 abbrev pub mem_puts : MemSink → List ℕ → Answer → MemSink → Type 0
-mem_puts before piece answer after = sink_plan after ≡ next_plan (sink_plan before)
+mem_puts before piece answer after = (sink_plan after ≡ next_plan (sink_plan before)) × CountsPut piece answer (sink_state before) (sink_state after)

@@ -2,6 +2,7 @@
 //! memory and over the system.
 #![tactic(auto)]
 
+mod counts;
 mod error;
 mod laws;
 mod mem;

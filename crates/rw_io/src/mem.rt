@@ -6,8 +6,10 @@ ghost use Rattle.rw_io.specs.Counts.{Rose, raised};
 ghost use Rattle.rw_io.specs.Files.{NamedFile, content_of};
 ghost use Rattle.rw_io.specs.Pieces.{taken};
 ghost use Rattle.rw_io.specs.States.{ShelfState, SinkState, NoShelfCountFell, NoSinkCountFell, IsLoaded, begun, appended};
-ghost use Rattle.rw_io.specs.MemForms.{Plan, named_files, created_last, next_plan, stalls_after, stalls_after_put, faults_after, faults_after_load};
+ghost use Rattle.rw_io.specs.CountedCalls.{CountsLoad, CountsCreate, stalls_after_put};
+ghost use Rattle.rw_io.specs.MemForms.{Plan, named_files, next_plan};
 
+use crate::counts::{count, count_stall};
 use crate::{LoadError, PutError, Shelf, Sink};
 use std::alloc::Global;
 
@@ -46,14 +48,6 @@ fn is_to_fail(fails: &[u64], calls: &mut u64) -> bool
     fails.contains(&call)
 }
 
-// One more, up to the last value.
-fn count(counter: &mut u64)
-    ensures next { counter.new ≡ raised counter.old }
-    ensures later { counter.old ≤ counter.new }
-{
-    *counter = counter.saturating_add(1);
-}
-
 // The content of the first file of that name.
 fn find<'a>(files: &'a [(String, Vec<u8>)], name: &str) -> Option<&'a [u8]>
     ensures { option_copied result ≡ content_of (named_files files.now) name.now }
@@ -82,9 +76,7 @@ fn take_front(
     let taken = piece.len().min(most);
     match bytes.extend_from_slice(&piece[..taken]) {
         Ok(()) => {
-            if taken == 0 && !piece.is_empty() {
-                count(stalls);
-            }
+            count_stall(taken, piece, stalls);
             Ok(taken)
         }
         Err(_) => Err(PutError::Memory),
@@ -142,6 +134,27 @@ impl MemShelf {
             None => None,
         }
     }
+
+    /// How many loads failed.
+    pub fn load_faults(&self) -> u64
+        ensures { result ≡ (shelf_state self.now).load_faults }
+    {
+        self.load_faults
+    }
+
+    /// How many creates and appends failed.
+    pub fn put_faults(&self) -> u64
+        ensures { result ≡ (shelf_state self.now).put_faults }
+    {
+        self.put_faults
+    }
+
+    /// How many appends stalled.
+    pub fn stalls(&self) -> u64
+        ensures { result ≡ (shelf_state self.now).stalls }
+    {
+        self.stalls
+    }
 }
 
 impl Shelf for MemShelf {
@@ -159,9 +172,7 @@ impl Shelf for MemShelf {
         ensures counts { NoShelfCountFell (shelf_state self.old) (shelf_state self.new) }
         ensures listed { IsErrOf result LoadError.Failed ↔ Contains (shelf_plan self.old).fails (shelf_plan self.old).calls }
         ensures next { shelf_plan self.new ≡ next_plan (shelf_plan self.old) }
-        ensures load_faults { (shelf_state self.new).load_faults ≡ faults_after_load result (shelf_state self.old).load_faults }
-        ensures put_faults { (shelf_state self.new).put_faults ≡ (shelf_state self.old).put_faults }
-        ensures stalls { (shelf_state self.new).stalls ≡ (shelf_state self.old).stalls }
+        ensures counted { CountsLoad result (shelf_state self.old) (shelf_state self.new) }
     {
         if is_to_fail(&self.fails, &mut self.calls) {
             count(&mut self.load_faults);
@@ -186,9 +197,7 @@ impl Shelf for MemShelf {
         ensures counts { NoShelfCountFell (shelf_state self.old) (shelf_state self.new) }
         ensures listed { IsErrOf result PutError.Failed ↔ Contains (shelf_plan self.old).fails (shelf_plan self.old).calls }
         ensures next { shelf_plan self.new ≡ next_plan (shelf_plan self.old) }
-        ensures load_faults { (shelf_state self.new).load_faults ≡ (shelf_state self.old).load_faults }
-        ensures put_faults { (shelf_state self.new).put_faults ≡ faults_after result (shelf_state self.old).put_faults }
-        ensures stalls { (shelf_state self.new).stalls ≡ (shelf_state self.old).stalls }
+        ensures counted { CountsCreate result (shelf_state self.old) (shelf_state self.new) }
     {
         if is_to_fail(&self.fails, &mut self.calls) {
             count(&mut self.put_faults);
@@ -213,12 +222,8 @@ impl Shelf for MemShelf {
         ensures failed { IsErrOf result PutError.Failed → Rose (shelf_state self.old).put_faults (shelf_state self.new).put_faults }
         ensures counts { NoShelfCountFell (shelf_state self.old) (shelf_state self.new) }
         ensures listed { IsErrOf result PutError.Failed ↔ Contains (shelf_plan self.old).fails (shelf_plan self.old).calls }
-        ensures next { shelf_plan self.new ≡ next_plan (shelf_plan self.old) }
         ensures goes { mem_appends self.old piece.now result self.new }
         ensures full { (shelf_state self.old).holding.has_created ≡ true → IfOk result (λ count. count ≡ min (length piece.now) (shelf_plan self.old).most) }
-        ensures load_faults { (shelf_state self.new).load_faults ≡ (shelf_state self.old).load_faults }
-        ensures put_faults { (shelf_state self.new).put_faults ≡ faults_after result (shelf_state self.old).put_faults }
-        ensures stalls { (shelf_state self.old).holding.has_created ≡ true → (shelf_state self.new).stalls ≡ stalls_after_put result piece.now (shelf_state self.old).stalls }
     {
         if is_to_fail(&self.fails, &mut self.calls) {
             count(&mut self.put_faults);
@@ -258,6 +263,20 @@ impl MemSink {
     {
         &self.bytes
     }
+
+    /// How many puts failed.
+    pub fn faults(&self) -> u64
+        ensures { result ≡ (sink_state self.now).faults }
+    {
+        self.faults
+    }
+
+    /// How many puts stalled.
+    pub fn stalls(&self) -> u64
+        ensures { result ≡ (sink_state self.now).stalls }
+    {
+        self.stalls
+    }
 }
 
 impl Sink for MemSink {
@@ -274,11 +293,8 @@ impl Sink for MemSink {
         ensures failed { IsErrOf result PutError.Failed → Rose (sink_state self.old).faults (sink_state self.new).faults }
         ensures counts { NoSinkCountFell (sink_state self.old) (sink_state self.new) }
         ensures listed { IsErrOf result PutError.Failed ↔ Contains (sink_plan self.old).fails (sink_plan self.old).calls }
-        ensures next { sink_plan self.new ≡ next_plan (sink_plan self.old) }
         ensures goes { mem_puts self.old piece.now result self.new }
         ensures full { IfOk result (λ count. count ≡ min (length piece.now) (sink_plan self.old).most) }
-        ensures faults { (sink_state self.new).faults ≡ faults_after result (sink_state self.old).faults }
-        ensures stalls { (sink_state self.new).stalls ≡ stalls_after_put result piece.now (sink_state self.old).stalls }
     {
         if is_to_fail(&self.fails, &mut self.calls) {
             count(&mut self.faults);

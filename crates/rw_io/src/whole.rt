@@ -1,8 +1,8 @@
 // A whole piece is written: what was not taken is offered again, until the end, a fault or a stall.
-ghost use Rattle.std.specs.Prelude.{◌≡◌, ◌≤◌, ◌<◌, ◌-◌, true, length, take, IfErr};
+ghost use Rattle.std.specs.Prelude.{◌≡◌, ◌≤◌, ◌<◌, ◌-◌, true, length, take, IfErr, Ok, Err};
 ghost use Rattle.std.specs.Io.KnownBytes.{append_known};
 ghost use Rattle.rw_io.specs.States.{NoShelfCountFell, NoSinkCountFell, appended};
-ghost use Rattle.rw_io.specs.Whole.{left_of, HasCause, OffersAll};
+ghost use Rattle.rw_io.specs.Whole.{left_of, stop_of, HasCause, OffersAll};
 
 use crate::{PutError, Shelf, Sink};
 use thiserror::Error;
@@ -28,9 +28,7 @@ pub struct Unwritten {
 
 impl Unwritten {
     fn failed(error: PutError, left: usize) -> Unwritten
-        ensures left { result.left ≡ left }
-        ensures failed { result.stop ≡ WriteStop.Failed → error ≡ PutError.Failed }
-        ensures not_stalled { result.stop ≡ WriteStop.Stalled → ⊥ }
+        ensures { result ≡ record { stop = stop_of (Err error); left = left } }
     {
         match error {
             PutError::Failed => Unwritten {
@@ -45,8 +43,7 @@ impl Unwritten {
     }
 
     fn stalled(left: usize) -> Unwritten
-        ensures left { result.left ≡ left }
-        ensures stop { result.stop ≡ WriteStop.Stalled }
+        ensures { result ≡ record { stop = WriteStop.Stalled; left = left } }
     {
         Unwritten {
             stop: WriteStop::Stalled,
@@ -56,11 +53,11 @@ impl Unwritten {
 }
 
 /// Puts a piece whole: it is offered as one piece, and then its rest, until a turn takes nothing of it.
-/// An error says why, and how many bytes at the end of the piece were not put.
+/// An error tells what the last call answered, and how many bytes at the end of the piece were not put.
 pub fn put_whole<O: Sink>(out: &mut O, piece: &[u8]) -> Result<(), Unwritten>
     ensures left { left_of result ≤ length piece.now }
     ensures not_done { IfErr result (λ unwritten. 0 < unwritten.left) }
-    ensures pieces { OffersAll O.puts out.old piece.now (left_of result) out.new }
+    ensures pieces { OffersAll O.puts out.old piece.now result out.new }
     ensures put { (O.state out.new).bytes ≡ append_known (O.state out.old).bytes (take (length piece.now - left_of result) piece.now) }
     ensures cause { IfErr result (λ unwritten. HasCause unwritten.stop (O.state out.old).faults (O.state out.new).faults
         (O.state out.old).stalls (O.state out.new).stalls) }
@@ -80,12 +77,12 @@ pub fn put_whole<O: Sink>(out: &mut O, piece: &[u8]) -> Result<(), Unwritten>
 
 /// Appends a piece whole to what was created: it is offered as one piece, and then its rest, until a turn takes
 /// nothing of it.
-/// An error says why, and how many bytes at the end of the piece were not appended.
+/// An error tells what the last call answered, and how many bytes at the end of the piece were not appended.
 pub fn append_whole<S: Shelf>(shelf: &mut S, piece: &[u8]) -> Result<(), Unwritten>
     requires { (S.state shelf.old).holding.has_created ≡ true }
     ensures left { left_of result ≤ length piece.now }
     ensures not_done { IfErr result (λ unwritten. 0 < unwritten.left) }
-    ensures pieces { OffersAll S.appends shelf.old piece.now (left_of result) shelf.new }
+    ensures pieces { OffersAll S.appends shelf.old piece.now result shelf.new }
     ensures appended { (S.state shelf.new).holding ≡ appended (take (length piece.now - left_of result) piece.now) (S.state shelf.old).holding }
     ensures cause { IfErr result (λ unwritten. HasCause unwritten.stop (S.state shelf.old).put_faults (S.state shelf.new).put_faults
         (S.state shelf.old).stalls (S.state shelf.new).stalls) }

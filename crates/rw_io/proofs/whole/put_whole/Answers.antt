@@ -1,5 +1,6 @@
-use Rattle.std.proofs.Common.{ℕ, arith, refl, sym, subst, Ok, Err}
+use Rattle.std.proofs.Common.{arith, refl, sym, subst, Ok, Err}
 use Rattle.rw_io.specs.Whole.{OffersAll}
+use Rattle.rw_io.specs.declared.whole.Unwritten.{Unwritten}
 use Rattle.rw_io.proofs.Joined.{next_known}
 use Rattle.rw_io.proofs.Offered.{after_turn, at_stop, at_end}
 use Rattle.rw_io.proofs.whole.put_whole.Goals as goal
@@ -14,12 +15,12 @@ loop-at-preserved g c = record {
 
 pub returns-in-Ok-eq0-clause-pieces : goal.returns-in-Ok-eq0-clause-pieces
 returns-in-Ok-eq0-clause-pieces g c =
-    subst (λ (left : ℕ). OffersAll g.O.Sink.puts c.args.out.now c.args.piece.now left c.put.new.self) (sym c.stalled.ensures.left)
+    subst (λ (unwritten : Unwritten). OffersAll g.O.Sink.puts c.args.out.now c.args.piece.now (Err unwritten) c.put.new.self) (sym c.stalled.ensures)
     (at_stop g.O.Sink.puts c.args.out.now c.loop-at.out c.put.new.self c.args.piece.now c.loop-at.at (Ok c.in-Ok-eq0.field-0) c.loop-at-test.true c.in-Ok-eq0.field-0-test c.in-Ok-eq0.ensures.goes c.loop-at.invariant.pieces)
 
 pub returns-in-Err-clause-pieces : goal.returns-in-Err-clause-pieces
 returns-in-Err-clause-pieces g c =
-    subst (λ (left : ℕ). OffersAll g.O.Sink.puts c.args.out.now c.args.piece.now left c.put.new.self) (sym c.failed.ensures.left)
+    subst (λ (unwritten : Unwritten). OffersAll g.O.Sink.puts c.args.out.now c.args.piece.now (Err unwritten) c.put.new.self) (sym c.failed.ensures)
     (at_stop g.O.Sink.puts c.args.out.now c.loop-at.out c.put.new.self c.args.piece.now c.loop-at.at (Err c.in-Err.error) c.loop-at-test.true refl c.in-Err.ensures.goes c.loop-at.invariant.pieces)
 
 pub returns-clause-pieces : goal.returns-clause-pieces
