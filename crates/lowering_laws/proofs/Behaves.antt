@@ -14,6 +14,7 @@ use Rattle.rw_types.specs.LoneMain.{ArePlain}
 use Rattle.rich_typing.specs.declared.notes.Note.{Note}
 use Rattle.rich_typing.specs.Derivations.{Derives, done, next}
 use Rattle.rich_typing.specs.Table.{unr_i64, i64s}
+use Rattle.rw_program.specs.LonePrograms.{lone_program}
 use Rattle.rw_program.specs.Programs.{Program}
 use Rattle.lowering_table.specs.declared.Pages.{Pages}
 use Rattle.lowering_table.specs.Frames.{room_of}
@@ -114,7 +115,7 @@ module _ (body : List Instr) (notes : List Note) (pages : Pages) where
   begin_answers : (ds : List rc.Event) (es : List wc.Event) → Fits ds es → Derives [] body [] notes (unr_i64 ∷ []) → ArePlain body → TheAnswers ds es (first p) (in_main (first_store m).globals [] (w.Call 4 ∷ w.GlobalGet 2 ∷ []))
   begin_answers ds es h d plain =
       let c0 = in_main (first_store m).globals [] (w.Call 4 ∷ w.GlobalGet 2 ∷ []) in
-      let count : ℕ = 0 + room_of notes 1 + 2 + 0 in
+      let count : ℕ = 0 + room_of body notes 1 + 2 + 0 in
       let none : ℕ = 0 in
       relation.moves body notes pages ds [] es [] 0 (in_call [] body) c0 c0 (inside (replicate count 0) [] (rows 0 body notes ++ ending)) h refl
       (quiet_zero e c0)
@@ -134,30 +135,30 @@ module _ (body : List Instr) (notes : List Note) (pages : Pages) where
 
   -- within the function
   run_answers : (ds : List rc.Event) (es : List wc.Event) → Fits ds es → (rest : List Instr) (later : List Note) (vs locals : List ℕ) → Derives [] rest (i64s (length vs)) later (unr_i64 ∷ []) → ArePlain rest →
-      room_of later 1 + 2 ≤ length locals → Stored vs locals → TheAnswers ds es (in_call vs rest) (inside locals [] (rows 0 rest later ++ ending))
+      room_of rest later 1 + 2 ≤ length locals → Stored vs locals → TheAnswers ds es (in_call vs rest) (inside locals [] (rows 0 rest later ++ ending))
   run_answers ds es h [] later [] locals (done tells same) plain room stored = absurd cc
   run_answers ds es h [] later (v ∷ []) locals (done tells same) plain room stored = leave_answers ds es v locals h stored.0
   run_answers ds es h [] later (v ∷ u ∷ vs) locals (done tells same) plain room stored = absurd cc
   run_answers ds es h (I64Const n ∷ is) later vs locals (next after rest goes tells d) plain room stored =
       subst (λ (l : List Note). TheAnswers ds es (in_call vs (I64Const n ∷ is)) (inside locals [] (rows 0 (I64Const n ∷ is) l ++ ending))) (sym tells)
       (instructions.const_answers body notes pages ds es n is rest vs locals h (derives_on goes d) plain.1
-      (subst (λ (l : List Note). room_of l 1 + 2 ≤ length locals) tells room) stored)
+      (subst (λ (l : List Note). room_of (I64Const n ∷ is) l 1 + 2 ≤ length locals) tells room) stored)
   run_answers ds es h (Num I64Add ∷ is) later [] locals (next after rest goes tells d) plain room stored = absurd cc
   run_answers ds es h (Num I64Add ∷ is) later (v ∷ []) locals (next after rest goes tells d) plain room stored = absurd cc
   run_answers ds es h (Num I64Add ∷ is) later (v ∷ u ∷ vs) locals (next after rest goes tells d) plain room stored =
       subst (λ (l : List Note). TheAnswers ds es (in_call (v ∷ u ∷ vs) (Num I64Add ∷ is)) (inside locals [] (rows 0 (Num I64Add ∷ is) l ++ ending))) (sym tells)
       (instructions.add_answers body notes pages ds es is rest v u vs locals h (derives_on goes d) plain.1
-      (subst (λ (l : List Note). room_of l 1 + 2 ≤ length locals) tells room) stored)
+      (subst (λ (l : List Note). room_of (Num I64Add ∷ is) l 1 + 2 ≤ length locals) tells room) stored)
   run_answers ds es h (Print ∷ is) later [] locals (next after rest goes tells d) plain room stored = absurd cc
   run_answers ds es h (Print ∷ is) later (v ∷ vs) locals (next after rest goes tells d) plain room stored =
       subst (λ (l : List Note). TheAnswers ds es (in_call (v ∷ vs) (Print ∷ is)) (inside locals [] (rows 0 (Print ∷ is) l ++ ending))) (sym tells)
       (instructions.print_answers body notes pages ds es is rest v vs locals h (derives_on goes d) plain.1
-      (subst (λ (l : List Note). room_of l 1 + 2 ≤ length locals) tells room) stored)
+      (subst (λ (l : List Note). room_of (Print ∷ is) l 1 + 2 ≤ length locals) tells room) stored)
   run_answers ds es h (Drop ∷ is) later [] locals (next after rest goes tells d) plain room stored = absurd cc
   run_answers ds es h (Drop ∷ is) later (v ∷ vs) locals (next after rest goes tells d) plain room stored =
       subst (λ (l : List Note). TheAnswers ds es (in_call (v ∷ vs) (Drop ∷ is)) (inside locals [] (rows 0 (Drop ∷ is) l ++ ending))) (sym tells)
       (instructions.drop_answers body notes pages ds es is rest v vs locals h (derives_on goes d) plain.1
-      (subst (λ (l : List Note). room_of l 1 + 2 ≤ length locals) tells room) stored)
+      (subst (λ (l : List Note). room_of (Drop ∷ is) l 1 + 2 ≤ length locals) tells room) stored)
   run_answers ds es h (_ ∷ is) later vs locals d plain room stored = absurd plain.0
 
   answers : Derives [] body [] notes (unr_i64 ∷ []) → ArePlain body → (ds : List rc.Event) (a : rc.Config) (es : List wc.Event) (b : wc.Config) → R ds a es b → TheAnswers ds es a b
@@ -181,18 +182,22 @@ module _ (body : List Instr) (notes : List Note) (pages : Pages) where
   behaves d plain =
       let all = answered d plain in
       let sim : Follows Fits Meets Holds f g R size = record { fits = all.fits; answers = λ ds a es b r. inl (all.answers ds a es b r) } in
-      alike Fits Meets Holds f g R size rs.prints ws.prints (λ ds es h. h) sim (first p) (in_main (first_store m).globals [] (w.Call 4 ∷ w.GlobalGet 2 ∷ [])) (begins refl refl refl)
+      alike Fits Meets Holds f g R size rc.prints ws.prints (λ ds es h. h) sim (first p) (in_main (first_store m).globals [] (w.Call 4 ∷ w.GlobalGet 2 ∷ [])) (begins refl refl refl)
 
   ends : Derives [] body [] notes (unr_i64 ∷ []) → ArePlain body → BothEnd (λ n. rich p n) (λ k. wasm m k)
   ends d plain =
       let h = gives_value body notes body notes [] d plain in
-      both_end Fits Meets Holds f g R size rs.prints ws.prints (λ ds es h. h) (answered d plain) (first p) (in_main (first_store m).globals [] (w.Call 4 ∷ w.GlobalGet 2 ∷ [])) (begins refl refl refl)
+      both_end Fits Meets Holds f g R size rc.prints ws.prints (λ ds es h. h) (answered d plain) (first p) (in_main (first_store m).globals [] (w.Call 4 ∷ w.GlobalGet 2 ∷ [])) (begins refl refl refl)
       (suc h.0) h.1 h.2
 
 pub lowered_behaves : LoweredBehaves
 lowered_behaves p pages lone =
-    subst (λ (q : Program). Alike (λ n. rich q n) (λ k. wasm (low_module q pages) k)) (sym lone.is) (behaves lone.body lone.notes pages lone.derived lone.plain)
+    subst (λ (q : Program). Alike (λ n. rich q n) (λ k. wasm (low_module q pages) k)) (sym lone.is)
+    (subst (λ (w : WModule). Alike (λ n. rich (lone_program lone.body lone.notes) n) (λ k. wasm w k)) (sym (relation.low_module-m lone.body lone.notes pages lone.plain))
+    (behaves lone.body lone.notes pages lone.derived lone.plain))
 
 pub lowered_ends : LoweredEnds
 lowered_ends p pages lone =
-    subst (λ (q : Program). BothEnd (λ n. rich q n) (λ k. wasm (low_module q pages) k)) (sym lone.is) (ends lone.body lone.notes pages lone.derived lone.plain)
+    subst (λ (q : Program). BothEnd (λ n. rich q n) (λ k. wasm (low_module q pages) k)) (sym lone.is)
+    (subst (λ (w : WModule). BothEnd (λ n. rich (lone_program lone.body lone.notes) n) (λ k. wasm w k)) (sym (relation.low_module-m lone.body lone.notes pages lone.plain))
+    (ends lone.body lone.notes pages lone.derived lone.plain))

@@ -40,7 +40,7 @@ module _ (body : List Instr) (notes : List Note) (pages : Pages) where
 
   -- the instructions, one by one
   pub const_answers : (ds : List rc.Event) (es : List wc.Event) (n : ℕ) (is : List Instr) (later : List Note) (vs locals : List ℕ) → Fits ds es → Derives [] is (i64s (suc (length vs))) later (unr_i64 ∷ []) → ArePlain is →
-      room_of (note_of [] (I64Const n) (i64s (length vs)) ∷ later) 1 + 2 ≤ length locals → Stored vs locals →
+      room_of (I64Const n ∷ is) (note_of [] (I64Const n) (i64s (length vs)) ∷ later) 1 + 2 ≤ length locals → Stored vs locals →
       TheAnswers ds es (in_call vs (I64Const n ∷ is)) (inside locals [] (rows 0 (I64Const n ∷ is) (note_of [] (I64Const n) (i64s (length vs)) ∷ later) ++ ending))
   const_answers ds es n is later vs locals h d plain room stored =
       let at : ℕ = words_of [] (i64s (length vs)) in
@@ -66,7 +66,7 @@ module _ (body : List Instr) (notes : List Note) (pages : Pages) where
       }))
 
   pub drop_answers : (ds : List rc.Event) (es : List wc.Event) (is : List Instr) (later : List Note) (v : ℕ) (vs locals : List ℕ) → Fits ds es → Derives [] is (i64s (length vs)) later (unr_i64 ∷ []) → ArePlain is →
-      room_of (note_of [] Drop (i64s (suc (length vs))) ∷ later) 1 + 2 ≤ length locals → Stored (v ∷ vs) locals →
+      room_of (Drop ∷ is) (note_of [] Drop (i64s (suc (length vs))) ∷ later) 1 + 2 ≤ length locals → Stored (v ∷ vs) locals →
       TheAnswers ds es (in_call (v ∷ vs) (Drop ∷ is)) (inside locals [] (rows 0 (Drop ∷ is) (note_of [] Drop (i64s (suc (length vs))) ∷ later) ++ ending))
   drop_answers ds es is later v vs locals h d plain room stored =
       let code = rows 0 is later ++ ending in
@@ -87,7 +87,7 @@ module _ (body : List Instr) (notes : List Note) (pages : Pages) where
       }))
 
   pub print_answers : (ds : List rc.Event) (es : List wc.Event) (is : List Instr) (later : List Note) (v : ℕ) (vs locals : List ℕ) → Fits ds es → Derives [] is (i64s (length vs)) later (unr_i64 ∷ []) → ArePlain is →
-      room_of (note_of [] Print (i64s (suc (length vs))) ∷ later) 1 + 2 ≤ length locals → Stored (v ∷ vs) locals →
+      room_of (Print ∷ is) (note_of [] Print (i64s (suc (length vs))) ∷ later) 1 + 2 ≤ length locals → Stored (v ∷ vs) locals →
       TheAnswers ds es (in_call (v ∷ vs) (Print ∷ is)) (inside locals [] (rows 0 (Print ∷ is) (note_of [] Print (i64s (suc (length vs))) ∷ later) ++ ending))
   print_answers ds es is later v vs locals h d plain room stored =
       let at : ℕ = words_of [] (i64s (length vs)) in
@@ -112,7 +112,7 @@ module _ (body : List Instr) (notes : List Note) (pages : Pages) where
       }))
 
   pub add_answers : (ds : List rc.Event) (es : List wc.Event) (is : List Instr) (later : List Note) (right left : ℕ) (vs locals : List ℕ) → Fits ds es → Derives [] is (i64s (suc (length vs))) later (unr_i64 ∷ []) → ArePlain is →
-      room_of (note_of [] (Num I64Add) (i64s (suc (suc (length vs)))) ∷ later) 1 + 2 ≤ length locals → Stored (right ∷ left ∷ vs) locals →
+      room_of (Num I64Add ∷ is) (note_of [] (Num I64Add) (i64s (suc (suc (length vs)))) ∷ later) 1 + 2 ≤ length locals → Stored (right ∷ left ∷ vs) locals →
       TheAnswers ds es (in_call (right ∷ left ∷ vs) (Num I64Add ∷ is)) (inside locals [] (rows 0 (Num I64Add ∷ is) (note_of [] (Num I64Add) (i64s (suc (suc (length vs)))) ∷ later) ++ ending))
   add_answers ds es is later right left vs locals h d plain room stored =
       let at : ℕ = words_of [] (i64s (length vs)) in

@@ -19,7 +19,9 @@ use Rattle.rw_program.specs.Programs.{Program}
 use Rattle.lowering_table.specs.declared.Pages.{Pages}
 use Rattle.lowering_table.specs.Frames.{room_of}
 use Rattle.lowering_table.specs.Rows.{rows}
-use Rattle.lowering_table.specs.Modules.{low_module}
+use Rattle.lowering_table.specs.Allocators.{unreachable_code}
+use Rattle.lowering_table.specs.Modules.{low_module, main_code}
+use Rattle.lowering_table.proofs.PlainBodies.{plain_code, plain_module, low_function-plain, low_module-plain}
 use Rattle.machine_steps.specs.Steps.{Turn, Went}
 use Rattle.machine_steps.specs.Simulations.{Moves, Answers}
 use Rattle.rich_reduction.specs.Configurations as rc
@@ -30,12 +32,12 @@ use Rattle.wasm_execution.specs.Environments.{Environment, environment_of}
 use Rattle.wasm_execution.specs.Steps as ws
 use Rattle.wasm_execution.specs.Starts.{first_store}
 use Rattle.lowering_laws.proofs.Locals.{Stored}
-use Rattle.lowering_laws.proofs.Values.{in_call}
+use Rattle.lowering_laws.proofs.Values.{call_with, in_call}
 use Rattle.lowering_laws.proofs.Walks.{acts, Quiet, speaks}
 
 -- histories that print the same
 abbrev pub Fits : List rc.Event → List wc.Event → Type 0
-Fits ds es = flat_map ws.prints es ≡ flat_map rs.prints ds
+Fits ds es = flat_map ws.prints es ≡ flat_map rc.prints ds
 
 abbrev pub Meets : List rc.Event → List wc.Event → Type 0
 Meets ds es = Unit {0}
@@ -45,10 +47,11 @@ Holds es b = Unit {0}
 
 pub fits_more : (ds ds' : List rc.Event) (es es' : List wc.Event) → Fits ds es → Fits ds' es' → Fits (ds ++ ds') (es ++ es')
 fits_more ds ds' es es' h k =
-    flat_map-append ws.prints es es' ∙ ap (λ (l : List ℕ). l ++ flat_map ws.prints es') h ∙ ap (λ (l : List ℕ). flat_map rs.prints ds ++ l) k ∙ sym (flat_map-append rs.prints ds ds')
+    flat_map-append ws.prints es es' ∙ ap (λ (l : List ℕ). l ++ flat_map ws.prints es') h ∙ ap (λ (l : List ℕ). flat_map rc.prints ds ++ l) k ∙ sym (flat_map-append rc.prints ds ds')
 
+-- the program's own list at its end, with its result
 abbrev pub given : ℕ → rc.Config
-given v = record { calls = []; results = rc.Number v ∷ []; entries = []; globals = []; stores = record { linear = []; unrestricted = [] } }
+given v = record { here = call_with (v ∷ []) []; callers = []; globals = []; stores = record { linear = []; unrestricted = [] } }
 
 abbrev pub main_at : List ℕ → List WInstr → wc.Here
 main_at operands rest = record { function = 5; locals = 0 ∷ 0 ∷ []; operands = operands; rest = rest; levels = [] }
@@ -60,8 +63,15 @@ module _ (body : List Instr) (notes : List Note) (pages : Pages) where
   abbrev pub p : Program
   p = lone_program body notes
 
+  -- its lowered module, where types and codes are written out
   abbrev pub m : WModule
-  m = low_module p pages
+  m = record (plain_module body notes pages) { codes = unreachable_code ∷ unreachable_code ∷ unreachable_code ∷ plain_code body notes ∷ main_code p ∷ [] }
+
+  pub low_module-m : ArePlain body → low_module p pages ≡ m
+  low_module-m plain =
+      let function = low_function-plain body notes plain in
+      low_module-plain body notes pages plain
+      ∙ (λ i. record (plain_module body notes pages) { codes = unreachable_code ∷ unreachable_code ∷ unreachable_code ∷ function i ∷ main_code p ∷ [] })
 
   abbrev pub e : Environment
   e = environment_of m
@@ -101,7 +111,7 @@ module _ (body : List Instr) (notes : List Note) (pages : Pages) where
     pub target : b ≡ inside locals [] (rows 0 rest later ++ ending)
     pub derived : Derives [] rest (i64s (length vs)) later (unr_i64 ∷ [])
     pub plain : ArePlain rest
-    pub room : room_of later 1 + 2 ≤ length locals
+    pub room : room_of rest later 1 + 2 ≤ length locals
     pub stored : Stored vs locals
 
   pub data R (ds : List rc.Event) (a : rc.Config) (es : List wc.Event) (b : wc.Config) : Type 0 where
