@@ -14,7 +14,7 @@ use Rattle.lowering_table.specs.Frames.{height_of, room_of, words_before}
 use Rattle.lowering_table.specs.Rows.{rows, gives}
 use Rattle.lowering_table.specs.declared.Pages.{Pages}
 use Rattle.lowering_table.specs.TypeUses.{first_uses, type_index}
-use Rattle.lowering_table.specs.Modules.{alloc_type, call_types, code_of, low_function, low_module, low_type, low_types, print_type, start_type}
+use Rattle.lowering_table.specs.Modules.{alloc_type, called_type, called_types, code_of, low_function, low_module, low_type, low_types, print_type, start_type}
 
 plain-nested : (i : Instr) → IsPlain i → nested i ≡ []
 plain-nested (I64Const n) plain = refl
@@ -42,14 +42,20 @@ plain-is_ended [] plain = refl
 plain-is_ended (i ∷ []) plain = plain-ends_list i plain.0
 plain-is_ended (i ∷ j ∷ is) plain = plain-is_ended (j ∷ is) plain.1
 
-plain-call_types : (is : List Instr) (notes : List Note) → ArePlain is → call_types is notes ≡ []
-plain-call_types [] notes plain = refl
-plain-call_types (i ∷ is) [] plain = refl
-plain-call_types (I64Const n ∷ is) (note ∷ notes) plain = plain-call_types is notes plain.1
-plain-call_types (Num I64Add ∷ is) (note ∷ notes) plain = plain-call_types is notes plain.1
-plain-call_types (Print ∷ is) (note ∷ notes) plain = plain-call_types is notes plain.1
-plain-call_types (Drop ∷ is) (note ∷ notes) plain = plain-call_types is notes plain.1
-plain-call_types (_ ∷ is) (note ∷ notes) plain = absurd plain.0
+plain-called_type : (i : Instr) (note : Note) → IsPlain i → called_type i note ≡ []
+plain-called_type (I64Const n) note plain = refl
+plain-called_type (Num I64Add) note plain = refl
+plain-called_type Print note plain = refl
+plain-called_type Drop note plain = refl
+plain-called_type _ note plain = absurd plain
+
+plain-called_types : (is : List Instr) (notes : List Note) → ArePlain is → called_types is notes ≡ []
+plain-called_types [] notes plain = refl
+plain-called_types (i ∷ is) [] plain = refl
+plain-called_types (i ∷ is) (note ∷ notes) plain =
+    let first = plain-called_type i note plain.0 in
+    let rest = plain-called_types is notes plain.1 in
+    λ j. first j ++ rest j
 
 pub plain-height : (i : Instr) (note : Note) → IsPlain i → height_of i note ≡ words_before note
 plain-height (I64Const n) note plain = refl
@@ -68,7 +74,7 @@ plain_code body notes = code_of (0 + room_of body notes 1 + 2) (rows 0 body note
 pub low_types-plain : (body : List Instr) (notes : List Note) → ArePlain body → low_types (lone_program body notes) ≡ plain_types
 low_types-plain body notes plain =
     ap (λ (ts : List FuncType). first_uses [] (print_type ∷ alloc_type ∷ record { params = []; result = None } ∷ start_type ∷ (ts ++ [])))
-    (ap (λ (is : List Instr). call_types is notes) (plain-text_order body plain) ∙ plain-call_types body notes plain)
+    (ap (λ (is : List Instr). called_types is notes) (plain-text_order body plain) ∙ plain-called_types body notes plain)
 
 pub low_function-plain : (body : List Instr) (notes : List Note) → ArePlain body → low_function (lone_func body notes) ≡ plain_code body notes
 low_function-plain body notes plain =

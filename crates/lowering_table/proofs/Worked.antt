@@ -9,9 +9,9 @@ pub two_initialisers : TwoInitialisers
 two_initialisers = refl
 
 pub ended_initialiser : EndedInitialiser
-unfolding Rattle.rw_types.specs.declared.types.Ty.TheBlock.shape-the_row-Ty-0 Rattle.rw_types.specs.declared.types.Ty.TheBlock.hidden-the_row-Ty-0 denote.Hole.Carrier.hidden denote.Hole.Carrier.shown
+unfolding Rattle.rw_types.specs.declared.types.Heap.TheBlock.shape-the_row-Ty-1 Rattle.rw_types.specs.declared.types.Heap.TheBlock.hidden-the_row-Ty-1 denote.Hole.Carrier.hidden denote.Hole.Carrier.shown
 ended_initialiser = refl
 
 pub swap-height : SwapHeight
-unfolding Rattle.rw_types.specs.declared.types.Ty.TheBlock.shape-the_row-Slot-0 Rattle.rw_types.specs.declared.types.Ty.TheBlock.hidden-the_row-Slot-0 denote.Hole.Carrier.hidden denote.Hole.Carrier.shown
+unfolding Rattle.rw_types.specs.declared.types.Heap.TheBlock.shape-the_row-Slot-0 Rattle.rw_types.specs.declared.types.Heap.TheBlock.hidden-the_row-Slot-0 denote.Hole.Carrier.hidden denote.Hole.Carrier.shown
 swap-height = refl

@@ -31,8 +31,9 @@ height_of _ note = words_before note
 
 -- the greatest of the heights of these instructions, each with its note, and of the height at the end
 abbrev pub room_of : List Instr → List Note → ℕ → ℕ
+room_of [] notes end = end
+room_of (i ∷ is) [] end = end
 room_of (i ∷ is) (note ∷ notes) end = max (height_of i note) (room_of is notes end)
-room_of _ _ end = end
 
 -- the words of a frame
 pub record Frame : Type 0 where

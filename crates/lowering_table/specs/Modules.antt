@@ -119,21 +119,22 @@ start_type = record { params = []; result = Some I64 }
 abbrev pub low_type : LinkedFunc → FuncType
 low_type f = record { params = replicate (words_of f.ty.binders f.ty.params) I64; result = None }
 
--- the type of an indirect call, by its note: the function's word comes last of those that it takes
-abbrev pub call_type : Note → FuncType
-call_type note = record { params = replicate (words_of note.binders note.taken - 1) I64; result = None }
+-- the type by which an instruction calls, by its note: of an indirect call, whose last word is the function's number
+abbrev pub called_type : Instr → Note → List FuncType
+called_type CallIndirect note = record { params = replicate (words_of note.binders note.taken - 1) I64; result = None } ∷ []
+called_type _ note = []
 
--- the types of the indirect calls among these instructions, each with its note
-abbrev pub call_types : List Instr → List Note → List FuncType
-call_types (CallIndirect ∷ is) (note ∷ notes) = call_type note ∷ call_types is notes
-call_types (_ ∷ is) (note ∷ notes) = call_types is notes
-call_types _ _ = []
+-- the types by which these instructions call, each with its note
+abbrev pub called_types : List Instr → List Note → List FuncType
+called_types [] notes = []
+called_types (i ∷ is) [] = []
+called_types (i ∷ is) (note ∷ notes) = called_type i note ++ called_types is notes
 
 -- the types of the print, the allocators, the linked functions, the exported main and the indirect calls of all bodies
 abbrev pub used_types : Program → List FuncType
 used_types p =
     print_type ∷ alloc_type
-    ∷ (map low_type p.funcs ++ start_type ∷ flat_map (λ (f : LinkedFunc). call_types (text_order f.body) f.notes) p.funcs)
+    ∷ (map low_type p.funcs ++ start_type ∷ flat_map (λ (f : LinkedFunc). called_types (text_order f.body) f.notes) p.funcs)
 
 -- the types of all functions and indirect calls, by first use
 abbrev pub low_types : Program → List FuncType
