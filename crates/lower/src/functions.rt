@@ -60,7 +60,6 @@ pub fn room(body: &[Instr], notes: &[Note], end: u64) -> u64
     most
 }
 
-#[tactic(auto, using(Rattle.lowering_table.proofs.PlainBodies.plain-height))]
 fn height(_instr: &Instr, note: &Note) -> u64
     requires plain { IsPlain _instr.now }
     requires within { IsWithin 1000 note.now }
