@@ -6,7 +6,7 @@ ghost use Rattle.wasm_grammar.specs.CanonicalModules.{HasShortContents};
 ghost use Rattle.machine_steps.specs.Agreement.{Alike};
 ghost use Rattle.machine_steps.specs.Ending.{BothEnd};
 ghost use Rattle.rich_reduction.specs.Starts.{rich};
-ghost use Rattle.wasm_execution.specs.Starts.{wasm};
+ghost use Rattle.wasm_execution.specs.Behaviour.{wasm};
 ghost use Rattle.rw_program.specs.LonePrograms.{IsLoneProgram, lone_func, lone_program};
 ghost use Rattle.lowering_table.specs.Allocators.{unreachable_code};
 ghost use Rattle.lowering_table.specs.Modules.{ArePages, low_function, low_module, main_code};

@@ -6,7 +6,7 @@ use Rattle.lowering_table.specs.Modules.{low_module}
 use Rattle.machine_steps.specs.Agreement.{Alike}
 use Rattle.machine_steps.specs.Ending.{BothEnd}
 use Rattle.rich_reduction.specs.Starts.{rich}
-use Rattle.wasm_execution.specs.Starts.{wasm}
+use Rattle.wasm_execution.specs.Behaviour.{wasm}
 
 -- the lowered module of each program that is lowered so far prints and ends as the program does, both ways, unless it is
 -- exhausted

@@ -5,47 +5,59 @@ use Rattle.std.proofs.lemmas.Bool.{cases_lt}
 use Rattle.machine_steps.specs.declared.End.{End}
 use Rattle.machine_steps.specs.declared.End.TheVariants.{Trap}
 use Rattle.machine_steps.specs.declared.Trap.TheVariants.{Exhausted}
-use Rattle.machine_steps.specs.Steps.{Turn, Went, Ended, NoStep, Stand, Going, Over, Stuck, Reached, onward, going, reached_by, reached}
+use Rattle.machine_steps.specs.Steps.{Turn, Went, Ended, NoStep, Going, Over, Stuck, Reached, onward, preceded, going, over, reached_by, reached}
 use Rattle.machine_steps.specs.Agreement.{IsSettled}
 use Rattle.machine_steps.specs.Simulations.{Comes, Within, Moves, Stops, Ends, Answers, Follows, Matches, Keeps, Exhausts, Throughout}
 
 -- what is on the way, from how it stands
-stands_going : {E A : Type 0} (r : Reached E A) → r.stand ≡ Going → r ≡ going r.said r.at
-stands_going r e = ap (λ (s : Stand). record { said = r.said; stand = s; at = r.at }) e
+stands_going : {E A : Type 0} (n : ℕ) (r : Reached E A) → r.stand ≡ Going → r.steps ≡ n → r ≡ going n r.said r.at
+stands_going n r e q = λ i. record { said = r.said; stand = e i; at = r.at; steps = q i }
 
-onward_twice : {E A : Type 0} (xs ys zs : List E) (r : Reached E A) → xs ++ ys ≡ zs → onward xs (onward ys r) ≡ onward zs r
-onward_twice {E} xs ys zs r e =
-    ap (λ (l : List E). record { said = l; stand = r.stand; at = r.at }) (sym (append_assoc xs ys r.said) ∙ ap (λ (l : List E). l ++ r.said) e)
+onward_preceded : {E A : Type 0} (n : ℕ) (xs ys zs : List E) (r : Reached E A) → xs ++ ys ≡ zs → onward xs (preceded n ys r) ≡ preceded (suc n) zs r
+onward_preceded {E} n xs ys zs r e =
+    let p : xs ++ (ys ++ r.said) ≡ zs ++ r.said = sym (append_assoc xs ys r.said) ∙ ap (λ (l : List E). l ++ r.said) e in
+    let q : suc (n + r.steps) ≡ suc n + r.steps = omega arith in
+    λ i. record { said = p i; stand = r.stand; at = r.at; steps = q i }
+
+preceded_none : {E A : Type 0} (es : List E) (r : Reached E A) → [] ≡ es → r ≡ preceded 0 es r
+preceded_none {E} es r e =
+    let p : r.said ≡ es ++ r.said = ap (λ (l : List E). l ++ r.said) e in
+    let q : r.steps ≡ 0 + r.steps = omega arith in
+    λ i. record { said = p i; stand = r.stand; at = r.at; steps = q i }
 
 module _ {E B : Type 0} (g : B → Turn E B) where
-  later_by : (n : ℕ) (o : Turn E B) (b : B) (es : List E) (b1 : B) → reached_by o b (reached g n) ≡ going es b1 → (m k : ℕ) →
-      ((c : B) (rs : List E) → reached g n c ≡ going rs b1 → reached g m c ≡ onward rs (reached g k b1)) → reached_by o b (reached g m) ≡ onward es (reached g k b1)
+  goes_to : (n : ℕ) (xs es : List E) (c b1 : B) → onward xs (reached g n c) ≡ going (suc n) es b1 → reached g n c ≡ going n (reached g n c).said b1
+  goes_to n xs es c b1 e =
+      let r = reached g n c in
+      let made : suc r.steps ≡ suc n = ap (λ (s : Reached E B). s.steps) e in
+      let q : r.steps ≡ n = omega (arith, made) in
+      stands_going n r (ap (λ (s : Reached E B). s.stand) e) q ∙ ap (going n r.said) (ap (λ (s : Reached E B). s.at) e)
+
+  later_by : (n : ℕ) (o : Turn E B) (b : B) (es : List E) (b1 : B) → reached_by o b (reached g n) ≡ going (suc n) es b1 → (m k : ℕ) →
+      ((c : B) (rs : List E) → reached g n c ≡ going n rs b1 → reached g m c ≡ preceded n rs (reached g k b1)) → reached_by o b (reached g m) ≡ preceded (suc n) es (reached g k b1)
   later_by n (Went xs c) b es b1 e m k again =
       let r = reached g n c in
-      let to : r ≡ going r.said b1 = stands_going r (ap (λ (s : Reached E B). s.stand) e) ∙ ap (going r.said) (ap (λ (s : Reached E B). s.at) e) in
-      ap (onward xs) (again c r.said to) ∙ onward_twice xs r.said es (reached g k b1) (ap (λ (s : Reached E B). s.said) e)
-  later_by n (Ended xs x c) b es b1 e m k again = let over : Over x ≡ Going = ap (λ (s : Reached E B). s.stand) e in cc
-  later_by n NoStep b es b1 e m k again = let over : Stuck ≡ Going = ap (λ (s : Reached E B). s.stand) e in cc
+      ap (onward xs) (again c r.said (goes_to n xs es c b1 e)) ∙ onward_preceded n xs r.said es (reached g k b1) (ap (λ (s : Reached E B). s.said) e)
+  later_by n (Ended xs x c) b es b1 e m k again = let clash : Over x ≡ Going = ap (λ (s : Reached E B). s.stand) e in cc
+  later_by n NoStep b es b1 e m k again = let clash : Stuck ≡ Going = ap (λ (s : Reached E B). s.stand) e in cc
 
-  later : (n m k : ℕ) (b b1 : B) (es : List E) → m ≡ n + k → reached g n b ≡ going es b1 → reached g m b ≡ onward es (reached g k b1)
+  later : (n m k : ℕ) (b b1 : B) (es : List E) → m ≡ n + k → reached g n b ≡ going n es b1 → reached g m b ≡ preceded n es (reached g k b1)
   later zero m k b b1 es em e =
       let same : m ≡ k = omega (arith, em) in
-      ap (λ (i : ℕ). reached g i b) same ∙ ap (reached g k) (ap (λ (s : Reached E B). s.at) e) ∙ ap (λ (l : List E). onward l (reached g k b1)) (ap (λ (s : Reached E B). s.said) e)
+      ap (λ (i : ℕ). reached g i b) same ∙ ap (reached g k) (ap (λ (s : Reached E B). s.at) e) ∙ preceded_none es (reached g k b1) (ap (λ (s : Reached E B). s.said) e)
   later (suc n) zero k b b1 es em e = absurd (omega (arith, em))
   later (suc n) (suc m) k b b1 es em e = later_by n (g b) b es b1 e m k (λ c rs h. later n m k c b1 rs (omega (arith, em)) h)
 
-  pub comes_later : {n : ℕ} {b b1 : B} {es : List E} → (m k : ℕ) → m ≡ n + k → Comes g n b es b1 → reached g m b ≡ onward es (reached g k b1)
+  pub comes_later : {n : ℕ} {b b1 : B} {es : List E} → (m k : ℕ) → m ≡ n + k → Comes g n b es b1 → reached g m b ≡ preceded n es (reached g k b1)
   comes_later {n} {b} {b1} {es} m k e c = later n m k b b1 es e c.by
 
-  way_by : (n : ℕ) (o : Turn E B) (b : B) (es : List E) (b1 : B) → reached_by o b (reached g n) ≡ going es b1 → (m : ℕ) →
-      ((c : B) (rs : List E) → reached g n c ≡ going rs b1 → (reached g m c).stand ≡ Going) → (reached_by o b (reached g m)).stand ≡ Going
-  way_by n (Went xs c) b es b1 e m again =
-      let r = reached g n c in
-      again c r.said (stands_going r (ap (λ (s : Reached E B). s.stand) e) ∙ ap (going r.said) (ap (λ (s : Reached E B). s.at) e))
-  way_by n (Ended xs x c) b es b1 e m again = let over : Over x ≡ Going = ap (λ (s : Reached E B). s.stand) e in cc
-  way_by n NoStep b es b1 e m again = let over : Stuck ≡ Going = ap (λ (s : Reached E B). s.stand) e in cc
+  way_by : (n : ℕ) (o : Turn E B) (b : B) (es : List E) (b1 : B) → reached_by o b (reached g n) ≡ going (suc n) es b1 → (m : ℕ) →
+      ((c : B) (rs : List E) → reached g n c ≡ going n rs b1 → (reached g m c).stand ≡ Going) → (reached_by o b (reached g m)).stand ≡ Going
+  way_by n (Went xs c) b es b1 e m again = again c (reached g n c).said (goes_to n xs es c b1 e)
+  way_by n (Ended xs x c) b es b1 e m again = let clash : Over x ≡ Going = ap (λ (s : Reached E B). s.stand) e in cc
+  way_by n NoStep b es b1 e m again = let clash : Stuck ≡ Going = ap (λ (s : Reached E B). s.stand) e in cc
 
-  way : (n m : ℕ) (b b1 : B) (es : List E) → m ≤ n → reached g n b ≡ going es b1 → (reached g m b).stand ≡ Going
+  way : (n m : ℕ) (b b1 : B) (es : List E) → m ≤ n → reached g n b ≡ going n es b1 → (reached g m b).stand ≡ Going
   way n zero b b1 es le e = refl
   way zero (suc m) b b1 es le e = absurd (omega (arith, le))
   way (suc n) (suc m) b b1 es le e = way_by n (g b) b es b1 e m (λ c rs h. way n m c b1 rs (omega (arith, le)) h)
@@ -61,7 +73,7 @@ module _ {D E A B : Type 0} (Fits Meets : List D → List E → Type 0) (Holds :
   abbrev TheMoves : List D → List D → List E → ℕ → A → B → Type 0
   TheMoves = Moves Fits Meets Holds f g R size
 
-  abbrev TheStops : List D → List D → List E → End → B → Type 0
+  abbrev TheStops : List D → List D → List D → List E → End → B → Type 0
   TheStops = Stops Fits Meets Holds f g R size
 
   abbrev TheEnds : List D → List D → List E → End → B → Type 0
@@ -92,15 +104,15 @@ module _ {D E A B : Type 0} (Fits Meets : List D → List E → Type 0) (Holds :
   holds_on : (es es' ys : List E) (b : B) → Holds ((es ++ es') ++ ys) b → Holds (es ++ (es' ++ ys)) b
   holds_on es es' ys b h = subst (λ (l : List E). Holds l b) (append_assoc es es' ys) h
 
-  matches_on : (ds ds' : List D) (es es' : List E) (s : Reached D A) (t : Reached E B) → TheMatches (ds ++ ds') (es ++ es') s t → TheMatches ds es (onward ds' s) (onward es' t)
-  matches_on ds ds' es es' s t h = record {
+  matches_on : (n : ℕ) (ds ds' : List D) (es es' : List E) (s : Reached D A) (t : Reached E B) → TheMatches (ds ++ ds') (es ++ es') s t → TheMatches ds es (onward ds' s) (preceded n es' t)
+  matches_on n ds ds' es es' s t h = record {
     fits = fits_on ds ds' es es' Fits s.said t.said h.fits;
     holds = holds_on es es' t.said t.at h.holds;
     settled = λ z. let k = h.settled z in (k.0, fits_on ds ds' es es' Meets s.said t.said k.1);
   }
 
-  keeps_on : (ds ds' : List D) (es es' : List E) (s : Reached D A) (t : Reached E B) → TheKeeps (ds ++ ds') (es ++ es') s t → TheKeeps ds es (onward ds' s) (onward es' t)
-  keeps_on ds ds' es es' s t h = record { fits = fits_on ds ds' es es' Fits s.said t.said h.fits; stand = h.stand }
+  keeps_on : (n : ℕ) (ds ds' : List D) (es es' : List E) (s : Reached D A) (t : Reached E B) → TheKeeps (ds ++ ds') (es ++ es') s t → TheKeeps ds es (onward ds' s) (preceded n es' t)
+  keeps_on n ds ds' es es' s t h = record { fits = fits_on ds ds' es es' Fits s.said t.said h.fits; stand = h.stand }
 
   pub no_more : (ds : List D) (es : List E) → Fits ds es → Fits (ds ++ []) es
   no_more ds es h = subst (λ (l : List D). Fits l es) (sym (append-nil ds)) h
@@ -125,37 +137,38 @@ module _ {D E A B : Type 0} (Fits Meets : List D → List E → Type 0) (Holds :
   )
 
   -- the target after its end
-  stopped : {ds after : List D} {es : List E} {e : End} {b : B} → (h : TheStops ds after es e b) → (k m : ℕ) → m ≡ h.steps + suc k → reached g m b ≡ record { said = h.said ++ h.last; stand = Over e; at = h.final }
-  stopped h k m em = comes_later g m (suc k) em h.comes ∙ ap (λ o. onward h.said (reached_by o h.to (reached g k))) h.ends
+  stopped : {ds ds' after : List D} {es : List E} {e : End} {b : B} → (h : TheStops ds ds' after es e b) → (k m : ℕ) → m ≡ h.steps + suc k → reached g m b ≡ over (h.steps + 1) (h.said ++ h.last) e h.final
+  stopped h k m em = comes_later g m (suc k) em h.comes ∙ ap (λ o. preceded h.steps h.said (reached_by o h.to (reached g k))) h.ends
 
-  back_stops : (ds after : List D) (es : List E) (a : A) (b : B) (m : ℕ) (e : End) → (h : TheStops ds after es e b) →
-      ((t : Reached E B) → t ≡ record { said = h.said ++ h.last; stand = Over e; at = h.final } → (n : ℕ) × TheMatches ds es (reached f n a) t) → Back ds es m a b
-  back_stops ds after es a b m e h ended = go (m - h.steps) refl
+  back_stops : (ds ds' after : List D) (es : List E) (a : A) (b : B) (m : ℕ) (e : End) → (h : TheStops ds ds' after es e b) →
+      ((t : Reached E B) → t.stand ≡ Going → TheWithin ds ds' es t → (n : ℕ) × TheMatches ds es (reached f n a) t) →
+      ((t : Reached E B) → t ≡ over (h.steps + 1) (h.said ++ h.last) e h.final → (n : ℕ) × TheMatches ds es (reached f n a) t) → Back ds es m a b
+  back_stops ds ds' after es a b m e h waiting ended = go (m - h.steps) refl
     where
       go : (j : ℕ) → m - h.steps ≡ j → Back ds es m a b
-      go zero e0 = waits ds es a (reached g m b) (comes_way g m (omega (arith, e0)) h.comes) (h.within m (omega (arith, e0)))
+      go zero e0 = waiting (reached g m b) (comes_way g m (omega (arith, e0)) h.comes) (h.within m (omega (arith, e0)))
       go (suc j) e1 = ended (reached g m b) (stopped h j m (omega (arith, e1)))
 
   back_ends : (ds ds' : List D) (es : List E) (a a' : A) (b : B) (m : ℕ) (e : End) → f a ≡ Ended ds' e a' → TheEnds ds ds' es e b → Back ds es m a b
-  back_ends ds ds' es a a' b m e fa h = back_stops ds (ds ++ ds') es a b m e h.stops ended
+  back_ends ds ds' es a a' b m e fa h = back_stops ds ds' (ds ++ ds') es a b m e h.stops (λ t way w. still ds ds' es a t way w (over 1 ds' e a') refl step) ended
     where
-      step : reached f 1 a ≡ record { said = ds'; stand = Over e; at = a' }
+      step : reached f 1 a ≡ over 1 ds' e a'
       step = ap (λ o. reached_by o a (reached f 0)) fa
 
-      at_end : TheMatches ds es (record { said = ds'; stand = Over e; at = a' }) (record { said = h.stops.said ++ h.stops.last; stand = Over e; at = h.stops.final })
+      at_end : TheMatches ds es (over 1 ds' e a') (over (h.stops.steps + 1) (h.stops.said ++ h.stops.last) e h.stops.final)
       at_end = record { fits = h.stops.fits; holds = h.stops.holds; settled = λ z. (refl, h.meets) }
 
-      ended : (t : Reached E B) → t ≡ record { said = h.stops.said ++ h.stops.last; stand = Over e; at = h.stops.final } → (n : ℕ) × TheMatches ds es (reached f n a) t
-      ended t is = (1, subst (λ (s : Reached D A). TheMatches ds es s t) (sym step) (subst (TheMatches ds es (record { said = ds'; stand = Over e; at = a' })) (sym is) at_end))
+      ended : (t : Reached E B) → t ≡ over (h.stops.steps + 1) (h.stops.said ++ h.stops.last) e h.stops.final → (n : ℕ) × TheMatches ds es (reached f n a) t
+      ended t is = (1, subst (λ (s : Reached D A). TheMatches ds es s t) (sym step) (subst (TheMatches ds es (over 1 ds' e a')) (sym is) at_end))
 
-  back_exhausts : (ds : List D) (es : List E) (a : A) (b : B) (m : ℕ) → TheStops ds ds es (Trap Exhausted) b → Back ds es m a b
-  back_exhausts ds es a b m h = back_stops ds ds es a b m (Trap Exhausted) h ended
+  back_exhausts : (ds : List D) (es : List E) (a : A) (b : B) (m : ℕ) → TheStops ds [] ds es (Trap Exhausted) b → Back ds es m a b
+  back_exhausts ds es a b m h = back_stops ds [] ds es a b m (Trap Exhausted) h (λ t way w. waits ds es a t way w) ended
     where
-      at_end : TheMatches ds es (going [] a) (record { said = h.said ++ h.last; stand = Over (Trap Exhausted); at = h.final })
+      at_end : TheMatches ds es (going 0 [] a) (over (h.steps + 1) (h.said ++ h.last) (Trap Exhausted) h.final)
       at_end = record { fits = no_more ds (es ++ (h.said ++ h.last)) h.fits; holds = h.holds; settled = λ z. absurd z }
 
-      ended : (t : Reached E B) → t ≡ record { said = h.said ++ h.last; stand = Over (Trap Exhausted); at = h.final } → (n : ℕ) × TheMatches ds es (reached f n a) t
-      ended t is = (0, subst (TheMatches ds es (going [] a)) (sym is) at_end)
+      ended : (t : Reached E B) → t ≡ over (h.steps + 1) (h.said ++ h.last) (Trap Exhausted) h.final → (n : ℕ) × TheMatches ds es (reached f n a) t
+      ended t is = (0, subst (TheMatches ds es (going 0 [] a)) (sym is) at_end)
 
   abbrev Earlier : ℕ → Type 0
   Earlier m = (k : ℕ) → k < m → (ds : List D) (a : A) (es : List E) (b : B) → R ds a es b → Back ds es k a b
@@ -164,7 +177,7 @@ module _ {D E A B : Type 0} (Fits Meets : List D → List E → Type 0) (Holds :
       ((ds : List D) (a : A) (es : List E) (b : B) → size a < s → R ds a es b → Back ds es m a b) → Back ds es m a b
   back_moves ds ds' es a a' b m s fa h le earlier again =
       ⊎_elim
-      (λ lt. still ds ds' es a (reached g m b) (comes_way g m (omega (arith, lt)) h.comes) (h.within m lt) (going (ds' ++ []) a') (append-nil ds') (ap (λ o. reached_by o a (reached f 0)) fa))
+      (λ lt. still ds ds' es a (reached g m b) (comes_way g m (omega (arith, lt)) h.comes) (h.within m lt) (going 1 (ds' ++ []) a') (append-nil ds') (ap (λ o. reached_by o a (reached f 0)) fa))
       (λ ge. beyond (m - h.steps) (omega (arith, ge)))
       (cases_lt m h.steps)
     where
@@ -181,7 +194,7 @@ module _ {D E A B : Type 0} (Fits Meets : List D → List E → Type 0) (Holds :
           let ef : reached f (suc r.0) a ≡ onward ds' (reached f r.0 a') = ap (λ o. reached_by o a (reached f r.0)) fa in (
             suc r.0,
             subst (λ (s : Reached D A). TheMatches ds es s (reached g m b)) (sym ef)
-                (subst (TheMatches ds es (onward ds' (reached f r.0 a'))) (sym (comes_later g m k em h.comes)) (matches_on ds ds' es h.said (reached f r.0 a') (reached g k h.to) r.1)),
+                (subst (TheMatches ds es (onward ds' (reached f r.0 a'))) (sym (comes_later g m k em h.comes)) (matches_on h.steps ds ds' es h.said (reached f r.0 a') (reached g k h.to) r.1)),
           )
 
   back_turn : (ds : List D) (es : List E) (a : A) (b : B) (m s : ℕ) (t : Turn D A) → f a ≡ t → TheAnswers ds es t (size a) b → size a ≤ s → Earlier m →
@@ -191,7 +204,7 @@ module _ {D E A B : Type 0} (Fits Meets : List D → List E → Type 0) (Holds :
   back_turn ds es a b m s NoStep fa h le earlier again = absurd h
 
   abbrev IsAnswered : Type 0
-  IsAnswered = (ds : List D) (a : A) (es : List E) (b : B) → R ds a es b → TheAnswers ds es (f a) (size a) b ⊎ TheStops ds ds es (Trap Exhausted) b
+  IsAnswered = (ds : List D) (a : A) (es : List E) (b : B) → R ds a es b → TheAnswers ds es (f a) (size a) b ⊎ TheStops ds [] ds es (Trap Exhausted) b
 
   back_from : IsAnswered → (m : ℕ) → Earlier m → (s : ℕ) (ds : List D) (a : A) (es : List E) (b : B) → size a ≤ s → R ds a es b → Back ds es m a b
   back_from sim m earlier zero ds a es b le r =
@@ -204,15 +217,15 @@ module _ {D E A B : Type 0} (Fits Meets : List D → List E → Type 0) (Holds :
   back_below sim zero k lt ds a es b r = absurd (omega (arith, lt))
   back_below sim (suc n) k lt ds a es b r = back_from sim k (λ j jlt. back_below sim n j (omega (arith, lt, jlt))) (size a) ds a es b (omega arith) r
 
-  forth_exhausts : (ds : List D) (es : List E) (n : ℕ) (a : A) (b : B) → TheStops ds ds es (Trap Exhausted) b → Forth ds es n a b
+  forth_exhausts : (ds : List D) (es : List E) (n : ℕ) (a : A) (b : B) → TheStops ds [] ds es (Trap Exhausted) b → Forth ds es n a b
   forth_exhausts ds es n a b h = (
     h.steps + suc zero,
     inr (subst (TheExhausts ds es n a) (sym (stopped h zero (h.steps + suc zero) refl))
         (record { exhausted = tt; earlier = zero; before = omega arith; fits = no_more ds (es ++ (h.said ++ h.last)) h.fits })),
   )
 
-  exhausts_on : (ds ds' : List D) (es es' : List E) (n : ℕ) (a a' : A) (t : Reached E B) → f a ≡ Went ds' a' → TheExhausts (ds ++ ds') (es ++ es') n a' t → TheExhausts ds es (suc n) a (onward es' t)
-  exhausts_on ds ds' es es' n a a' t fa h = record {
+  exhausts_on : (k : ℕ) (ds ds' : List D) (es es' : List E) (n : ℕ) (a a' : A) (t : Reached E B) → f a ≡ Went ds' a' → TheExhausts (ds ++ ds') (es ++ es') n a' t → TheExhausts ds es (suc n) a (preceded k es' t)
+  exhausts_on k ds ds' es es' n a a' t fa h = record {
     exhausted = h.exhausted;
     earlier = suc h.earlier;
     before = omega (arith, h.before);
@@ -225,19 +238,19 @@ module _ {D E A B : Type 0} (Fits Meets : List D → List E → Type 0) (Holds :
   pub keeps_moves : {ds ds' : List D} {es : List E} {a a' : A} {b : B} {s : ℕ} → (n k : ℕ) → f a ≡ Went ds' a' → (h : TheMoves ds ds' es s a' b) →
       TheKeeps (ds ++ ds') (es ++ h.said) (reached f n a') (reached g k h.to) → TheKeeps ds es (reached f (suc n) a) (reached g (h.steps + k) b)
   keeps_moves {ds} {ds'} {es} {a} {a'} {b} n k fa h keeps =
-      let eg : reached g (h.steps + k) b ≡ onward h.said (reached g k h.to) = comes_later g (h.steps + k) k refl h.comes in
+      let eg : reached g (h.steps + k) b ≡ preceded h.steps h.said (reached g k h.to) = comes_later g (h.steps + k) k refl h.comes in
       let ef : reached f (suc n) a ≡ onward ds' (reached f n a') = ap (λ o. reached_by o a (reached f n)) fa in
       subst (λ (x : Reached D A). TheKeeps ds es x (reached g (h.steps + k) b)) (sym ef)
-      (subst (TheKeeps ds es (onward ds' (reached f n a'))) (sym eg) (keeps_on ds ds' es h.said (reached f n a') (reached g k h.to) keeps))
+      (subst (TheKeeps ds es (onward ds' (reached f n a'))) (sym eg) (keeps_on h.steps ds ds' es h.said (reached f n a') (reached g k h.to) keeps))
 
   -- and at its end
   pub keeps_ends : {ds ds' : List D} {es : List E} {e : End} {a a' : A} {b : B} → (n : ℕ) → f a ≡ Ended ds' e a' → (h : TheEnds ds ds' es e b) →
       TheKeeps ds es (reached f (suc n) a) (reached g (h.stops.steps + suc zero) b)
   keeps_ends {ds} {ds'} {es} {e} {a} {a'} {b} n fa h =
-      let at : TheKeeps ds es (record { said = ds'; stand = Over e; at = a' }) (record { said = h.stops.said ++ h.stops.last; stand = Over e; at = h.stops.final }) = record { fits = h.stops.fits; stand = refl } in
-      let ef : reached f (suc n) a ≡ record { said = ds'; stand = Over e; at = a' } = ap (λ o. reached_by o a (reached f n)) fa in
+      let at : TheKeeps ds es (over 1 ds' e a') (over (h.stops.steps + 1) (h.stops.said ++ h.stops.last) e h.stops.final) = record { fits = h.stops.fits; stand = refl } in
+      let ef : reached f (suc n) a ≡ over 1 ds' e a' = ap (λ o. reached_by o a (reached f n)) fa in
       subst (λ (x : Reached D A). TheKeeps ds es x (reached g (h.stops.steps + suc zero) b)) (sym ef)
-      (subst (TheKeeps ds es (record { said = ds'; stand = Over e; at = a' })) (sym (stopped h.stops zero (h.stops.steps + suc zero) refl)) at)
+      (subst (TheKeeps ds es (over 1 ds' e a')) (sym (stopped h.stops zero (h.stops.steps + suc zero) refl)) at)
 
   forth_turn : (ds : List D) (es : List E) (n : ℕ) (a : A) (b : B) (t : Turn D A) (s : ℕ) → f a ≡ t → ((ds : List D) (a : A) (es : List E) (b : B) → R ds a es b → Forth ds es n a b) → TheAnswers ds es t s b → Forth ds es (suc n) a b
   forth_turn ds es n a b (Went ds' a') s fa again h =
@@ -245,7 +258,7 @@ module _ {D E A B : Type 0} (Fits Meets : List D → List E → Type 0) (Holds :
         h.steps + r.0,
         ⊎_elim
             (λ k. inl (keeps_moves n r.0 fa h k))
-            (λ k. inr (subst (TheExhausts ds es (suc n) a) (sym (comes_later g (h.steps + r.0) r.0 refl h.comes)) (exhausts_on ds ds' es h.said n a a' (reached g r.0 h.to) fa k)))
+            (λ k. inr (subst (TheExhausts ds es (suc n) a) (sym (comes_later g (h.steps + r.0) r.0 refl h.comes)) (exhausts_on h.steps ds ds' es h.said n a a' (reached g r.0 h.to) fa k)))
             r.1,
       )
   forth_turn ds es n a b (Ended ds' e a') s fa again h = (h.stops.steps + suc zero, inl (keeps_ends n fa h))

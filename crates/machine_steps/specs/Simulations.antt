@@ -8,7 +8,7 @@ use Rattle.machine_steps.specs.Agreement.{IsExhausted, IsSettled}
 
 -- the target comes to a state in so many steps, saying this
 pub record Comes {E B : Type 0} (g : B → Turn E B) (n : ℕ) (b : B) (es : List E) (b' : B) : Type 0 where
-  pub by : reached g n b ≡ going es b'
+  pub by : reached g n b ≡ going n es b'
 
 -- `Fits`: histories of both that belong to each other; `Meets`: those at an end; `Holds`: what holds of the target;
 -- `R`: the histories and states that a step of the source begins with; `size` falls where the target makes no step
@@ -29,22 +29,22 @@ module _ {D E A B : Type 0} (Fits Meets : List D → List E → Type 0) (Holds :
     pub related : R (ds ++ ds') a' (es ++ said) to
     pub falls : steps ≡ 0 → size a' < before
 
-  -- the target ends, and fits the source's history `after`
-  pub record Stops (ds after : List D) (es : List E) (e : End) (b : B) : Type 0 where
+  -- the target ends within a step of the source that says ds', and fits the source's history `after`
+  pub record Stops (ds ds' after : List D) (es : List E) (e : End) (b : B) : Type 0 where
     pub steps : ℕ
     pub said : List E
     pub to : B
     pub last : List E
     pub final : B
     pub comes : Comes g steps b said to
-    pub within : (m : ℕ) → m ≤ steps → Within ds [] es (reached g m b)
+    pub within : (m : ℕ) → m ≤ steps → Within ds ds' es (reached g m b)
     pub ends : g to ≡ Ended last e final
     pub fits : Fits after (es ++ (said ++ last))
     pub holds : Holds (es ++ (said ++ last)) final
 
   -- the target ends as the source does
   pub record Ends (ds ds' : List D) (es : List E) (e : End) (b : B) : Type 0 where
-    pub stops : Stops ds (ds ++ ds') es e b
+    pub stops : Stops ds ds' (ds ++ ds') es e b
     pub meets : Meets (ds ++ ds') (es ++ (stops.said ++ stops.last))
 
   abbrev pub Answers : List D → List E → Turn D A → ℕ → B → Type 0
@@ -55,7 +55,7 @@ module _ {D E A B : Type 0} (Fits Meets : List D → List E → Type 0) (Holds :
   -- each step from related histories and states is answered, or the target is exhausted
   pub record Follows : Type 0 where
     pub fits : (ds : List D) (a : A) (es : List E) (b : B) → R ds a es b → Fits ds es × Holds es b
-    pub answers : (ds : List D) (a : A) (es : List E) (b : B) → R ds a es b → Answers ds es (f a) (size a) b ⊎ Stops ds ds es (Trap Exhausted) b
+    pub answers : (ds : List D) (a : A) (es : List E) (b : B) → R ds a es b → Answers ds es (f a) (size a) b ⊎ Stops ds [] ds es (Trap Exhausted) b
 
   -- each step from related histories and states is answered, and the target is never exhausted instead
   pub record Answered : Type 0 where

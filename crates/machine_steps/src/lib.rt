@@ -1,15 +1,16 @@
-//! Machines that make steps: how a run ends, what is reached after so many steps, when two machines behave alike,
-//! and the theorem that a machine which follows another one step by step behaves as it does.
+//! Machines that make steps: how a run ends, what is reached after so many steps, when two machines behave alike, and walks
+//! of one that answer a step of another. Its theorem: a machine that follows another one step by step behaves as it does.
 #![tactic(auto)]
 
-ghost use Rattle.std.specs.Prelude.{◌≡◌, ◌⊎◌, ℕ, ℤ, suc, List, []};
+ghost use Rattle.std.specs.Prelude.{◌≡◌, ◌⊎◌, ◌<◌, ◌≤◌, ◌++◌, ℕ, ℤ, suc, List, []};
 ghost use Rattle.std.specs.List.{flat_map};
 ghost use Rattle.machine_steps.specs.declared.End.{End};
 ghost use Rattle.machine_steps.specs.declared.End.TheVariants.{Value};
-ghost use Rattle.machine_steps.specs.Steps.{Turn, Going, Over, reached};
+ghost use Rattle.machine_steps.specs.Steps.{Turn, Went, Going, Over, reached};
 ghost use Rattle.machine_steps.specs.Agreement.{seen, Alike};
 ghost use Rattle.machine_steps.specs.Ending.{BothEnd};
-ghost use Rattle.machine_steps.specs.Simulations.{Follows, Throughout, Answered, Keeps};
+ghost use Rattle.machine_steps.specs.Simulations.{Follows, Throughout, Answered, Keeps, Answers, Stops, Ends};
+ghost use Rattle.machine_steps.specs.Walks.{Walk, OnTheWay, AtEnd};
 
 /// Why a run stops without a value; this project's own.
 #[derive(Clone, Copy, Debug, PartialEq, Eq)]
@@ -103,4 +104,26 @@ pub fn ends_once<E, A>()
 /// A law: what has ended stays as it is.
 pub fn ended_stays<E, A>()
     ensures { (step : A → Turn E A) (n : ℕ) (a : A) (e : End) → (reached step n a).stand ≡ Over e → reached step (suc n) a ≡ reached step n a }
+{}
+
+/// A law: while a run is on its way, as many steps were made as were to be, and never more.
+pub fn steps_are_counted<E, A>()
+    ensures going { (step : A → Turn E A) (n : ℕ) (a : A) → (reached step n a).stand ≡ Going → (reached step n a).steps ≡ n }
+    ensures most { (step : A → Turn E A) (n : ℕ) (a : A) → (reached step n a).steps ≤ n }
+{}
+
+/// A law: a walk of the target to what is related to the source's next state, with what has to hold on the way, answers the
+/// source's step; one to an end stops the target within that step; and where the histories meet there, it ends as the
+/// source does.
+pub fn walks_answer<S: Simulation>()
+    ensures goes { (ds ds' : List S.Said) (es : List S.Answer) (a a' : S.Source) (b : S.Target) → S.source a ≡ Went ds' a'
+        → (w : Walk S.target (OnTheWay S.fits S.holds ds ds') (S.related (ds ++ ds') a') es b) → (w.steps ≡ 0 → S.size a' < S.size a)
+        → Answers S.fits S.meets S.holds S.source S.target S.related S.size ds es (S.source a) (S.size a) b }
+    ensures stops { (ds ds' after : List S.Said) (last es : List S.Answer) (e : End) (b : S.Target)
+        → Walk S.target (OnTheWay S.fits S.holds ds ds') (λ l c. AtEnd S.fits S.holds S.target after last e l c × OnTheWay S.fits S.holds ds ds' l c) es b
+        → Stops S.fits S.meets S.holds S.source S.target S.related S.size ds ds' after es e b }
+    ensures ends { (ds ds' : List S.Said) (last es : List S.Answer) (e : End) (b : S.Target)
+        → Walk S.target (OnTheWay S.fits S.holds ds ds')
+        (λ l c. (AtEnd S.fits S.holds S.target (ds ++ ds') last e l c × OnTheWay S.fits S.holds ds ds' l c) × S.meets (ds ++ ds') (l ++ last)) es b
+        → Ends S.fits S.meets S.holds S.source S.target S.related S.size ds ds' es e b }
 {}

@@ -18,7 +18,7 @@ use Rattle.rw_program.specs.LonePrograms.{IsLoneProgram, lone_program}
 use Rattle.machine_steps.specs.Agreement.{Alike}
 use Rattle.machine_steps.specs.Ending.{BothEnd}
 use Rattle.rich_reduction.specs.Starts.{rich}
-use Rattle.wasm_execution.specs.Starts.{wasm}
+use Rattle.wasm_execution.specs.Behaviour.{wasm}
 use Rattle.lowering_laws.proofs.Behaves.{lowered_behaves, lowered_ends}
 use Rattle.rw_program.specs.Linking.{program_of}
 use Rattle.rw_program.specs.Programs.{Program}

@@ -13,7 +13,7 @@ use Rattle.lowering_table.specs.Modules.{low_module}
 use Rattle.machine_steps.specs.Agreement.{Alike}
 use Rattle.machine_steps.specs.Ending.{BothEnd}
 use Rattle.rich_reduction.specs.Starts.{rich}
-use Rattle.wasm_execution.specs.Starts.{wasm}
+use Rattle.wasm_execution.specs.Behaviour.{wasm}
 use Rattle.rw_io.specs.Files.{NamedFile, content_of}
 use Rattle.rw_io.specs.States.{ShelfState, SinkState}
 use Rattle.rwc.specs.Lines.{wrote_line}

@@ -4,6 +4,7 @@ use Rattle.std.specs.Prelude.{ℕ, ◌^◌, ◌<◌, List, length, Option, map}
 use Rattle.wasm_ast.specs.declared.types.ValTy.{ValTy}
 use Rattle.wasm_ast.specs.declared.instructions.WInstr.{WInstr, out-WInstr}
 use Rattle.wasm_ast.specs.declared.instructions.WInstr.TheOpen.{WInstr-F}
+use Rattle.wasm_ast.specs.Operations.{Operation, operation_in}
 
 -- The ten kinds of immediates, of which `A` stands for the nested instructions. `IndexZero` is an index and a
 -- zero byte, `Zero` a zero byte, `Labels` the labels of a table and its default, `MemArg` an alignment exponent
@@ -20,111 +21,42 @@ pub data Immediate (A : Type 0) : Type 0 where
   Body : (t : Option ValTy) (xs : List A) → Immediate A
   Bodies : (t : Option ValTy) (xs ys : List A) → Immediate A
 
--- what follows the opcode
+-- what follows the opcode, by kind of operation
+abbrev pub immediate_by : {A : Type 0} → Operation A → Immediate A
+immediate_by Operation.Unreachable = Bare
+immediate_by Operation.Nop = Bare
+immediate_by (Operation.Block t xs) = Body t xs
+immediate_by (Operation.Loop t xs) = Body t xs
+immediate_by (Operation.If t xs) = Body t xs
+immediate_by (Operation.IfElse t xs ys) = Bodies t xs ys
+immediate_by (Operation.Br label) = Index label
+immediate_by (Operation.BrIf label) = Index label
+immediate_by (Operation.BrTable labels default) = Labels labels default
+immediate_by Operation.Return = Bare
+immediate_by (Operation.Call function) = Index function
+immediate_by (Operation.CallIndirect type_index) = IndexZero type_index
+immediate_by Operation.Drop = Bare
+immediate_by Operation.Select = Bare
+immediate_by (Operation.LocalGet n) = Index n
+immediate_by (Operation.LocalSet n) = Index n
+immediate_by (Operation.LocalTee n) = Index n
+immediate_by (Operation.GlobalGet n) = Index n
+immediate_by (Operation.GlobalSet n) = Index n
+immediate_by (Operation.Load _ _ align offset) = MemArg align offset
+immediate_by (Operation.Store _ _ align offset) = MemArg align offset
+immediate_by Operation.MemorySize = Zero
+immediate_by Operation.MemoryGrow = Zero
+immediate_by (Operation.Const32 bits) = Const32 bits
+immediate_by (Operation.Const64 bits) = Const64 bits
+immediate_by (Operation.Eqz _) = Bare
+immediate_by (Operation.Compare _ _) = Bare
+immediate_by (Operation.Unary _ _) = Bare
+immediate_by (Operation.Binary _ _) = Bare
+immediate_by (Operation.Convert _) = Bare
+
+-- what follows the opcode of a layer, of which `A` stands for the nested instructions
 abbrev pub immediate_in : {A : Type 0} → WInstr-F A → Immediate A
-immediate_in WInstr-F.Unreachable = Bare
-immediate_in WInstr-F.Nop = Bare
-immediate_in (WInstr-F.Block t xs) = Body t xs
-immediate_in (WInstr-F.Loop t xs) = Body t xs
-immediate_in (WInstr-F.If t xs) = Body t xs
-immediate_in (WInstr-F.IfElse t xs ys) = Bodies t xs ys
-immediate_in (WInstr-F.Br n) = Index n
-immediate_in (WInstr-F.BrIf n) = Index n
-immediate_in (WInstr-F.BrTable labels default) = Labels labels default
-immediate_in WInstr-F.Return = Bare
-immediate_in (WInstr-F.Call n) = Index n
-immediate_in (WInstr-F.CallIndirect n) = IndexZero n
-immediate_in WInstr-F.Drop = Bare
-immediate_in WInstr-F.Select = Bare
-immediate_in (WInstr-F.LocalGet n) = Index n
-immediate_in (WInstr-F.LocalSet n) = Index n
-immediate_in (WInstr-F.LocalTee n) = Index n
-immediate_in (WInstr-F.GlobalGet n) = Index n
-immediate_in (WInstr-F.GlobalSet n) = Index n
-immediate_in (WInstr-F.I32Load align offset) = MemArg align offset
-immediate_in (WInstr-F.I64Load align offset) = MemArg align offset
-immediate_in (WInstr-F.I32Load8S align offset) = MemArg align offset
-immediate_in (WInstr-F.I32Load8U align offset) = MemArg align offset
-immediate_in (WInstr-F.I32Load16S align offset) = MemArg align offset
-immediate_in (WInstr-F.I32Load16U align offset) = MemArg align offset
-immediate_in (WInstr-F.I64Load8S align offset) = MemArg align offset
-immediate_in (WInstr-F.I64Load8U align offset) = MemArg align offset
-immediate_in (WInstr-F.I64Load16S align offset) = MemArg align offset
-immediate_in (WInstr-F.I64Load16U align offset) = MemArg align offset
-immediate_in (WInstr-F.I64Load32S align offset) = MemArg align offset
-immediate_in (WInstr-F.I64Load32U align offset) = MemArg align offset
-immediate_in (WInstr-F.I32Store align offset) = MemArg align offset
-immediate_in (WInstr-F.I64Store align offset) = MemArg align offset
-immediate_in (WInstr-F.I32Store8 align offset) = MemArg align offset
-immediate_in (WInstr-F.I32Store16 align offset) = MemArg align offset
-immediate_in (WInstr-F.I64Store8 align offset) = MemArg align offset
-immediate_in (WInstr-F.I64Store16 align offset) = MemArg align offset
-immediate_in (WInstr-F.I64Store32 align offset) = MemArg align offset
-immediate_in WInstr-F.MemorySize = Zero
-immediate_in WInstr-F.MemoryGrow = Zero
-immediate_in (WInstr-F.I32Const n) = Const32 n
-immediate_in (WInstr-F.I64Const n) = Const64 n
-immediate_in WInstr-F.I32Eqz = Bare
-immediate_in WInstr-F.I32Eq = Bare
-immediate_in WInstr-F.I32Ne = Bare
-immediate_in WInstr-F.I32LtS = Bare
-immediate_in WInstr-F.I32LtU = Bare
-immediate_in WInstr-F.I32GtS = Bare
-immediate_in WInstr-F.I32GtU = Bare
-immediate_in WInstr-F.I32LeS = Bare
-immediate_in WInstr-F.I32LeU = Bare
-immediate_in WInstr-F.I32GeS = Bare
-immediate_in WInstr-F.I32GeU = Bare
-immediate_in WInstr-F.I64Eqz = Bare
-immediate_in WInstr-F.I64Eq = Bare
-immediate_in WInstr-F.I64Ne = Bare
-immediate_in WInstr-F.I64LtS = Bare
-immediate_in WInstr-F.I64LtU = Bare
-immediate_in WInstr-F.I64GtS = Bare
-immediate_in WInstr-F.I64GtU = Bare
-immediate_in WInstr-F.I64LeS = Bare
-immediate_in WInstr-F.I64LeU = Bare
-immediate_in WInstr-F.I64GeS = Bare
-immediate_in WInstr-F.I64GeU = Bare
-immediate_in WInstr-F.I32Clz = Bare
-immediate_in WInstr-F.I32Ctz = Bare
-immediate_in WInstr-F.I32Popcnt = Bare
-immediate_in WInstr-F.I32Add = Bare
-immediate_in WInstr-F.I32Sub = Bare
-immediate_in WInstr-F.I32Mul = Bare
-immediate_in WInstr-F.I32DivS = Bare
-immediate_in WInstr-F.I32DivU = Bare
-immediate_in WInstr-F.I32RemS = Bare
-immediate_in WInstr-F.I32RemU = Bare
-immediate_in WInstr-F.I32And = Bare
-immediate_in WInstr-F.I32Or = Bare
-immediate_in WInstr-F.I32Xor = Bare
-immediate_in WInstr-F.I32Shl = Bare
-immediate_in WInstr-F.I32ShrS = Bare
-immediate_in WInstr-F.I32ShrU = Bare
-immediate_in WInstr-F.I32Rotl = Bare
-immediate_in WInstr-F.I32Rotr = Bare
-immediate_in WInstr-F.I64Clz = Bare
-immediate_in WInstr-F.I64Ctz = Bare
-immediate_in WInstr-F.I64Popcnt = Bare
-immediate_in WInstr-F.I64Add = Bare
-immediate_in WInstr-F.I64Sub = Bare
-immediate_in WInstr-F.I64Mul = Bare
-immediate_in WInstr-F.I64DivS = Bare
-immediate_in WInstr-F.I64DivU = Bare
-immediate_in WInstr-F.I64RemS = Bare
-immediate_in WInstr-F.I64RemU = Bare
-immediate_in WInstr-F.I64And = Bare
-immediate_in WInstr-F.I64Or = Bare
-immediate_in WInstr-F.I64Xor = Bare
-immediate_in WInstr-F.I64Shl = Bare
-immediate_in WInstr-F.I64ShrS = Bare
-immediate_in WInstr-F.I64ShrU = Bare
-immediate_in WInstr-F.I64Rotl = Bare
-immediate_in WInstr-F.I64Rotr = Bare
-immediate_in WInstr-F.I32WrapI64 = Bare
-immediate_in WInstr-F.I64ExtendI32S = Bare
-immediate_in WInstr-F.I64ExtendI32U = Bare
+immediate_in x = immediate_by (operation_in x)
 
 -- what follows the opcode of an instruction
 abbrev pub immediate_of : WInstr → Immediate WInstr

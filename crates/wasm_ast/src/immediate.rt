@@ -3,6 +3,7 @@ ghost use Rattle.wasm_ast.specs.Immediates.{HasShortLists, immediate_of};
 ghost use Rattle.wasm_ast.specs.ImmediateViews.{immediate_seen};
 
 use crate::instructions::WInstr;
+use crate::operation::OperationRef;
 use crate::types::ValTy;
 
 /// The immediates of an instruction: what follows its opcode
@@ -37,110 +38,37 @@ impl WInstr {
         ensures immediate { immediate_seen result ≡ immediate_of self.now }
         ensures short { HasShortLists (immediate_seen result) }
     {
-        match self {
-            WInstr::Block(t, xs) | WInstr::Loop(t, xs) | WInstr::If(t, xs) => ImmediateRef::Body(
-                *t,
-                xs.as_slice(),
-            ),
-            WInstr::IfElse(t, xs, ys) => ImmediateRef::Bodies(*t, xs.as_slice(), ys.as_slice()),
-            WInstr::Br(n)
-            | WInstr::BrIf(n)
-            | WInstr::Call(n)
-            | WInstr::LocalGet(n)
-            | WInstr::LocalSet(n)
-            | WInstr::LocalTee(n)
-            | WInstr::GlobalGet(n)
-            | WInstr::GlobalSet(n) => ImmediateRef::Index(*n),
-            WInstr::BrTable(labels, default) => ImmediateRef::Labels(labels.as_slice(), *default),
-            WInstr::CallIndirect(n) => ImmediateRef::IndexZero(*n),
-            WInstr::I32Load(align, offset)
-            | WInstr::I64Load(align, offset)
-            | WInstr::I32Load8S(align, offset)
-            | WInstr::I32Load8U(align, offset)
-            | WInstr::I32Load16S(align, offset)
-            | WInstr::I32Load16U(align, offset)
-            | WInstr::I64Load8S(align, offset)
-            | WInstr::I64Load8U(align, offset)
-            | WInstr::I64Load16S(align, offset)
-            | WInstr::I64Load16U(align, offset)
-            | WInstr::I64Load32S(align, offset)
-            | WInstr::I64Load32U(align, offset)
-            | WInstr::I32Store(align, offset)
-            | WInstr::I64Store(align, offset)
-            | WInstr::I32Store8(align, offset)
-            | WInstr::I32Store16(align, offset)
-            | WInstr::I64Store8(align, offset)
-            | WInstr::I64Store16(align, offset)
-            | WInstr::I64Store32(align, offset) => ImmediateRef::MemArg(*align, *offset),
-            WInstr::MemorySize | WInstr::MemoryGrow => ImmediateRef::Zero,
-            WInstr::I32Const(n) => ImmediateRef::Const32(*n),
-            WInstr::I64Const(n) => ImmediateRef::Const64(*n),
-            WInstr::Unreachable
-            | WInstr::Nop
-            | WInstr::Return
-            | WInstr::Drop
-            | WInstr::Select
-            | WInstr::I32Eqz
-            | WInstr::I32Eq
-            | WInstr::I32Ne
-            | WInstr::I32LtS
-            | WInstr::I32LtU
-            | WInstr::I32GtS
-            | WInstr::I32GtU
-            | WInstr::I32LeS
-            | WInstr::I32LeU
-            | WInstr::I32GeS
-            | WInstr::I32GeU
-            | WInstr::I64Eqz
-            | WInstr::I64Eq
-            | WInstr::I64Ne
-            | WInstr::I64LtS
-            | WInstr::I64LtU
-            | WInstr::I64GtS
-            | WInstr::I64GtU
-            | WInstr::I64LeS
-            | WInstr::I64LeU
-            | WInstr::I64GeS
-            | WInstr::I64GeU
-            | WInstr::I32Clz
-            | WInstr::I32Ctz
-            | WInstr::I32Popcnt
-            | WInstr::I32Add
-            | WInstr::I32Sub
-            | WInstr::I32Mul
-            | WInstr::I32DivS
-            | WInstr::I32DivU
-            | WInstr::I32RemS
-            | WInstr::I32RemU
-            | WInstr::I32And
-            | WInstr::I32Or
-            | WInstr::I32Xor
-            | WInstr::I32Shl
-            | WInstr::I32ShrS
-            | WInstr::I32ShrU
-            | WInstr::I32Rotl
-            | WInstr::I32Rotr
-            | WInstr::I64Clz
-            | WInstr::I64Ctz
-            | WInstr::I64Popcnt
-            | WInstr::I64Add
-            | WInstr::I64Sub
-            | WInstr::I64Mul
-            | WInstr::I64DivS
-            | WInstr::I64DivU
-            | WInstr::I64RemS
-            | WInstr::I64RemU
-            | WInstr::I64And
-            | WInstr::I64Or
-            | WInstr::I64Xor
-            | WInstr::I64Shl
-            | WInstr::I64ShrS
-            | WInstr::I64ShrU
-            | WInstr::I64Rotl
-            | WInstr::I64Rotr
-            | WInstr::I32WrapI64
-            | WInstr::I64ExtendI32S
-            | WInstr::I64ExtendI32U => ImmediateRef::Bare,
+        match self.operation() {
+            OperationRef::Block(t, xs) | OperationRef::Loop(t, xs) | OperationRef::If(t, xs) => {
+                ImmediateRef::Body(t, xs)
+            }
+            OperationRef::IfElse(t, xs, ys) => ImmediateRef::Bodies(t, xs, ys),
+            OperationRef::Br(n)
+            | OperationRef::BrIf(n)
+            | OperationRef::Call(n)
+            | OperationRef::LocalGet(n)
+            | OperationRef::LocalSet(n)
+            | OperationRef::LocalTee(n)
+            | OperationRef::GlobalGet(n)
+            | OperationRef::GlobalSet(n) => ImmediateRef::Index(n),
+            OperationRef::BrTable(labels, default) => ImmediateRef::Labels(labels, default),
+            OperationRef::CallIndirect(n) => ImmediateRef::IndexZero(n),
+            OperationRef::Load(_, _, align, offset) | OperationRef::Store(_, _, align, offset) => {
+                ImmediateRef::MemArg(align, offset)
+            }
+            OperationRef::MemorySize | OperationRef::MemoryGrow => ImmediateRef::Zero,
+            OperationRef::Const32(bits) => ImmediateRef::Const32(bits),
+            OperationRef::Const64(bits) => ImmediateRef::Const64(bits),
+            OperationRef::Unreachable
+            | OperationRef::Nop
+            | OperationRef::Return
+            | OperationRef::Drop
+            | OperationRef::Select
+            | OperationRef::Eqz(_)
+            | OperationRef::Compare(..)
+            | OperationRef::Unary(..)
+            | OperationRef::Binary(..)
+            | OperationRef::Convert(_) => ImmediateRef::Bare,
         }
     }
 }

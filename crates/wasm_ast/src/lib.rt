@@ -7,6 +7,7 @@ mod instructions;
 mod laws;
 mod modules;
 mod opcode;
+mod operation;
 mod types;
 
 pub use bounded_list::List;
@@ -17,6 +18,7 @@ pub use laws::opcodes_tell_apart;
 pub use modules::{
     Code, DataSeg, ElemSeg, Export, ExportKind, Import, ImportKind, LocalRun, WGlobal, WModule,
 };
+pub use operation::{Access, OperationRef};
 pub use types::{FuncType, Limits, ValTy};
 
 #[cfg(test)]

@@ -1,7 +1,8 @@
 -- The configurations of a module that runs (WebAssembly Core Specification 1.0, section 4.2). Operands are numbers, without
 -- their widths, which are a matter of validation.
-use Rattle.std.specs.Prelude.{ℕ, List, Option}
+use Rattle.std.specs.Prelude.{ℕ, List, [], ◌∷◌, Option}
 use Rattle.wasm_ast.specs.declared.instructions.WInstr.{WInstr}
+use Rattle.machine_steps.specs.declared.Trap as machine
 
 -- where a branch to an open list leads: past its end, or to its start (4.2.12, the continuation of a label)
 pub data Aim : Type 0 where
@@ -17,10 +18,11 @@ pub record Level : Type 0 where
   pub beneath : List ℕ
   pub rest : List WInstr
 
--- a call that runs: its function, its locals, the operands, the top one first, what is left of the list, and the open lists,
--- the innermost first (4.2.12, frames)
+-- a call that runs: its function, its first argument (0 where it has none), its locals, the operands, the top one first, what
+-- is left of the list, and the open lists, the innermost first (4.2.12, frames)
 pub record Here : Type 0 where
   pub function : ℕ
+  pub argument : ℕ
   pub locals : List ℕ
   pub operands : List ℕ
   pub rest : List WInstr
@@ -31,7 +33,7 @@ pub data Bottom : Type 0 where
   TheEnd : Bottom
   ThenCall : ℕ → Bottom
 
--- memory, table and globals (4.2.3)
+-- the bytes of memory, the functions in the table, and the globals (4.2.3)
 pub record Store : Type 0 where
   pub memory : List ℕ
   pub table : List (Option ℕ)
@@ -44,6 +46,17 @@ pub record Config : Type 0 where
   pub bottom : Bottom
   pub store : Store
 
--- what a step says: that a number was printed
+-- what a step says: that a number was printed; that an allocator was called with this argument, or returned this number (0
+-- where it returns none), and the store then; that so many bytes at an address were loaded or stored elsewhere; and why
+-- `unreachable` stopped the run (this project's own)
 pub data Event : Type 0 where
   Print : ℕ → Event
+  Called : ℕ → ℕ → Store → Event
+  Returned : ℕ → ℕ → Store → Event
+  Touch : ℕ → ℕ → Event
+  Stopped : machine.Trap → Event
+
+-- the numbers that an event prints
+abbrev pub prints : Event → List ℕ
+prints (Print n) = n ∷ []
+prints _ = []

@@ -1,5 +1,13 @@
+pub mod Types
 pub mod Configurations
 pub mod Environments
+pub mod Turns
+pub mod Numbers
+pub mod Variables
+pub mod Memories
+pub mod Calls
+pub mod Control
 pub mod Steps
 pub mod Starts
+pub mod Behaviour
 pub mod Rows

@@ -10,7 +10,7 @@ use Rattle.machine_steps.specs.declared.End.{End}
 use Rattle.machine_steps.specs.declared.End.TheVariants.{Value, Trap}
 use Rattle.machine_steps.specs.declared.Trap.TheVariants.{Exhausted}
 use Rattle.machine_steps.specs.Steps.{Going, Over}
-use Rattle.wasm_execution.specs.Starts.{wasm}
+use Rattle.wasm_execution.specs.Behaviour.{wasm}
 
 -- global 0 is `trap_code`, at first this number; global 1 takes the result of function 1, which has this body and three
 -- locals; function 2 is `main`, which calls it and gives global 1

@@ -1,18 +1,49 @@
--- How a module begins to run: its instantiation, and the invocation of its exported `main` (WebAssembly Core Specification 1.0,
--- sections 4.5.4 and 4.5.5).
-use Rattle.std.specs.Prelude.{ℕ, ◌+◌, ◌*◌, List, [], ◌∷◌, ◌++◌, Option, Some, None, length, map, take, drop, replicate, codes, slice_get}
+-- How a module begins to run: its instantiation, and the invocation of its start function and of its exported `main` (WebAssembly
+-- Core Specification 1.0, sections 4.5.4 and 4.5.5).
+use Rattle.std.specs.Prelude.{ℕ, zero, suc, ◌+◌, ◌*◌, Bool, true, false, ◌&&◌, nat_le, List, [], ◌∷◌, ◌++◌, Option, Some, None, length, map, take, drop, replicate, codes, slice_get}
+use Rattle.std.specs.Str.{bytes_eq}
+use Rattle.memory_words.specs.Memories.{zeros, put}
 use Rattle.wasm_ast.specs.declared.instructions.WInstr.{WInstr, out-WInstr}
 use Rattle.wasm_ast.specs.declared.instructions.WInstr.TheOpen.{WInstr-F}
+use Rattle.wasm_ast.specs.declared.types.FuncType.{FuncType}
 use Rattle.wasm_ast.specs.declared.types.Limits.{Limits}
+use Rattle.wasm_ast.specs.declared.types.ValTy.TheVariants.{I64}
+use Rattle.wasm_ast.specs.declared.modules.Code.{Code}
 use Rattle.wasm_ast.specs.declared.modules.DataSeg.{DataSeg}
 use Rattle.wasm_ast.specs.declared.modules.ElemSeg.{ElemSeg}
+use Rattle.wasm_ast.specs.declared.modules.Import.{Import}
+use Rattle.wasm_ast.specs.declared.modules.ImportKind.{ImportKind}
+use Rattle.wasm_ast.specs.declared.modules.ImportKind.TheVariants as import_kind
 use Rattle.wasm_ast.specs.declared.modules.WGlobal.{WGlobal}
 use Rattle.wasm_ast.specs.declared.modules.WModule.{WModule}
-use Rattle.machine_steps.specs.Steps.{Stuck, Turn, Went, reached}
-use Rattle.machine_steps.specs.Agreement.{Seen, seen}
-use Rattle.wasm_execution.specs.Configurations.{Bottom, TheEnd, ThenCall, Store, Config, Event}
-use Rattle.wasm_execution.specs.Environments.{environment_of, exported, is_func}
-use Rattle.wasm_execution.specs.Steps.{enter, step, prints}
+use Rattle.wasm_execution.specs.Types.{takes_and_gives, is_same}
+use Rattle.wasm_execution.specs.Configurations.{Bottom, TheEnd, ThenCall, Store, Config}
+use Rattle.wasm_execution.specs.Environments.{Environment, environment_of, function_at, exported, is_func}
+use Rattle.wasm_execution.specs.Calls.{entered}
+
+-- how a module starts: the first import that the host does not give; the first segment out of bounds, element segments counted
+-- before data segments; no `main`; a start function that cannot be called, which validation refuses; or the first configuration
+pub data Start : Type 0 where
+  UnknownImport : ℕ → Start
+  SegmentOut : ℕ → Start
+  NoMain : Start
+  NoStartFunction : Start
+  Begins : Config → Start
+
+-- the number of the first that fails, counted from here
+abbrev pub first_failing : ℕ → List Bool → Option ℕ
+first_failing n [] = None
+first_failing n (true ∷ rest) = first_failing (suc n) rest
+first_failing n (false ∷ rest) = Some n
+
+-- whether a thing is a function that takes an i64 and gives nothing
+abbrev pub prints_i64 : List FuncType → ImportKind → Bool
+prints_i64 types (import_kind.Func n) = elim (slice_get types n) [ None ↦ false | Some t ↦ is_same t (takes_and_gives (I64 ∷ []) None) ]
+prints_i64 types _ = false
+
+-- whether an import is the one that the host gives (this project's own)
+abbrev pub is_print : List FuncType → Import → Bool
+is_print types i = bytes_eq i.«module» (codes "rw") && (bytes_eq i.name (codes "print") && prints_i64 types i.what)
 
 -- the value of a constant expression over these globals (4.4.8)
 abbrev pub value_in : List ℕ → WInstr-F WInstr → ℕ
@@ -21,58 +52,86 @@ value_in globals (WInstr-F.I64Const n) = n
 value_in globals (WInstr-F.GlobalGet n) = elim (slice_get globals n) [ None ↦ 0 | Some v ↦ v ]
 value_in globals _ = 0
 
--- the first values of the globals, which are constants: this project's modules import no global
+-- the first values of the globals, which are constants: a module that starts imports no global
 abbrev pub first_globals : List WGlobal → List ℕ
 first_globals gs = map (λ g. value_in [] (out-WInstr g.init)) gs
 
--- these in the place of those from `at` on
-abbrev pub put_at : {X : Type 0} → ℕ → List X → List X → List X
-put_at at xs old = take at old ++ (xs ++ drop (at + length xs) old)
+-- how many entries a table has at first
+abbrev pub first_entries : List Limits → ℕ
+first_entries [] = 0
+first_entries (l ∷ ls) = l.min
 
-abbrev pub put_segments : List ℕ → List DataSeg → List ℕ → List ℕ
-put_segments globals [] memory = memory
-put_segments globals (s ∷ ss) memory = put_segments globals ss (put_at (value_in globals (out-WInstr s.offset)) s.bytes memory)
+-- how many bytes a memory has at first
+abbrev pub first_bytes : List Limits → ℕ
+first_bytes [] = 0
+first_bytes (l ∷ ls) = 65536 * l.min
+
+-- whether an element segment lies within so many entries
+abbrev pub fits_table : List ℕ → ℕ → ElemSeg → Bool
+fits_table globals entries s = nat_le (value_in globals (out-WInstr s.offset) + length s.funcs) entries
+
+-- whether a data segment lies within so many bytes
+abbrev pub fits_memory : List ℕ → ℕ → DataSeg → Bool
+fits_memory globals bytes s = nat_le (value_in globals (out-WInstr s.offset) + length s.bytes) bytes
+
+-- the first segment out of bounds
+abbrev pub first_out : WModule → Option ℕ
+first_out m =
+    let globals = first_globals m.globals in
+    first_failing 0 (map (fits_table globals (first_entries m.tables)) m.elements ++ map (fits_memory globals (first_bytes m.memories)) m.segments)
+
+-- these functions in the place of the entries from `at` on
+abbrev pub put_functions : ℕ → List ℕ → List (Option ℕ) → List (Option ℕ)
+put_functions at functions table = take at table ++ (map (λ n. Some n) functions ++ drop (at + length functions) table)
 
 abbrev pub put_elements : List ℕ → List ElemSeg → List (Option ℕ) → List (Option ℕ)
 put_elements globals [] table = table
-put_elements globals (s ∷ ss) table = put_elements globals ss (put_at (value_in globals (out-WInstr s.offset)) (map (λ n. Some n) s.funcs) table)
+put_elements globals (s ∷ ss) table = put_elements globals ss (put_functions (value_in globals (out-WInstr s.offset)) s.funcs table)
 
-abbrev pub first_memory : List Limits → List ℕ
-first_memory [] = []
-first_memory (l ∷ ls) = replicate (65536 * l.min) 0
-
-abbrev pub first_table : List Limits → List (Option ℕ)
-first_table [] = []
-first_table (l ∷ ls) = replicate l.min None
+abbrev pub put_segments : List ℕ → List DataSeg → List ℕ → List ℕ
+put_segments globals [] memory = memory
+put_segments globals (s ∷ ss) memory = put_segments globals ss (put memory (value_in globals (out-WInstr s.offset)) s.bytes)
 
 -- the store before the first step, for a module whose segments lie within its memory and table
 abbrev pub first_store : WModule → Store
 first_store m =
     let globals = first_globals m.globals in
     record {
-      memory = put_segments globals m.segments (first_memory m.memories);
-      table = put_elements globals m.elements (first_table m.tables);
+      memory = put_segments globals m.segments (zeros (first_bytes m.memories));
+      table = put_elements globals m.elements (replicate (first_entries m.tables) None);
       globals = globals;
     }
 
-abbrev pub seen_after : WModule → ℕ → Turn Event Config → Seen
-seen_after m n (Went es c) = seen prints (reached (step (environment_of m)) n c)
-seen_after m n _ = record { printed = []; stand = Stuck }
+-- the code of a function that has this type
+abbrev pub code_of_type : Environment → FuncType → ℕ → Option Code
+code_of_type e ty n = elim (function_at e n) [ None ↦ None | Some f ↦ elim (is_same f.ty ty) [ true ↦ f.code | false ↦ None ] ]
 
--- what is seen of a module after so many steps of a function that takes nothing, and of what follows it
-abbrev pub seen_of : WModule → ℕ → ℕ → Bottom → Seen
-seen_of m n called bottom = elim (slice_get (environment_of m).functions called) [
-  | None ↦ record { printed = []; stand = Stuck }
-  | Some f ↦ seen_after m n (enter called f [] [] bottom (first_store m))
+-- a function that takes nothing is called, and then what follows
+abbrev pub begins : WModule → ℕ → Option Code → Bottom → Start → Start
+begins m n None bottom otherwise = otherwise
+begins m n (Some code) bottom otherwise = Begins (entered n code [] [] bottom (first_store m))
+
+-- the start function is called first, where there is one, and then `main`
+abbrev pub start_main : WModule → ℕ → Option Code → Start
+start_main m main None = NoMain
+start_main m main (Some code) = elim m.start [
+  | None ↦ Begins (entered main code [] [] TheEnd (first_store m))
+  | Some n ↦ begins m n (code_of_type (environment_of m) (takes_and_gives [] None) n) (ThenCall main) NoStartFunction
 ]
 
--- what is seen of a module after so many steps: of its start function, where it has one, and then of its exported `main`, which
--- takes nothing
-abbrev pub wasm : WModule → ℕ → Seen
-wasm m n = elim (exported is_func (codes "main") m.exports) [
-  | None ↦ record { printed = []; stand = Stuck }
-  | Some main ↦ elim m.start [
-    | None ↦ seen_of m n main TheEnd
-    | Some start ↦ seen_of m n start (ThenCall main)
+-- the function that is exported as `main`
+abbrev pub start_exported : WModule → Start
+start_exported m = elim (exported is_func (codes "main") m.exports) [
+  | None ↦ NoMain
+  | Some main ↦ start_main m main (code_of_type (environment_of m) (takes_and_gives [] (Some I64)) main)
+]
+
+-- how a module starts, in the order in which it is looked at
+abbrev pub start_of : WModule → Start
+start_of m = elim (first_failing 0 (map (is_print m.types) m.imports)) [
+  | Some i ↦ UnknownImport i
+  | None ↦ elim (first_out m) [
+    | Some i ↦ SegmentOut i
+    | None ↦ start_exported m
   ]
 ]

@@ -6,7 +6,7 @@ use Rattle.wasm_ast.specs.declared.modules.WModule.{WModule}
 use Rattle.machine_steps.specs.Agreement.{Alike}
 use Rattle.machine_steps.specs.Ending.{BothEnd}
 use Rattle.rich_reduction.specs.Starts.{rich}
-use Rattle.wasm_execution.specs.Starts.{wasm}
+use Rattle.wasm_execution.specs.Behaviour.{wasm}
 use Rattle.lowering_laws.proofs.Behaves.{lowered_behaves, lowered_ends}
 use Rattle.lower.proofs.Fitting.{low_is_in_profile}
 use Rattle.lower.proofs.ShortContents.{low_has_short_contents}

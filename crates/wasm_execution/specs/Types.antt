@@ -1,0 +1,38 @@
+-- Types and their counts (WebAssembly Core Specification 1.0, section 2.3).
+use Rattle.std.specs.Prelude.{ℕ, Bool, true, false, ◌&&◌, List, [], ◌∷◌, Option, Some, None}
+use Rattle.wasm_operators.specs.declared.Width.{Width}
+use Rattle.wasm_operators.specs.declared.Width.TheVariants.{W32, W64}
+use Rattle.wasm_ast.specs.declared.types.FuncType.{FuncType}
+use Rattle.wasm_ast.specs.declared.types.ValTy.{ValTy}
+use Rattle.wasm_ast.specs.declared.types.ValTy.TheVariants.{I32, I64}
+
+abbrev pub width_of : ValTy → Width
+width_of I32 = W32
+width_of I64 = W64
+
+-- how many results a function or a list has
+abbrev pub results_of : Option ValTy → ℕ
+results_of None = 0
+results_of (Some t) = 1
+
+abbrev pub takes_and_gives : List ValTy → Option ValTy → FuncType
+takes_and_gives params result = record { params = params; result = result }
+
+abbrev pub is_same_value : ValTy → ValTy → Bool
+is_same_value I32 I32 = true
+is_same_value I64 I64 = true
+is_same_value _ _ = false
+
+abbrev pub are_same_values : List ValTy → List ValTy → Bool
+are_same_values [] [] = true
+are_same_values (t ∷ ts) (u ∷ us) = is_same_value t u && are_same_values ts us
+are_same_values _ _ = false
+
+abbrev pub is_same_result : Option ValTy → Option ValTy → Bool
+is_same_result None None = true
+is_same_result (Some t) (Some u) = is_same_value t u
+is_same_result _ _ = false
+
+-- whether two function types are the same
+abbrev pub is_same : FuncType → FuncType → Bool
+is_same f g = are_same_values f.params g.params && is_same_result f.result g.result
