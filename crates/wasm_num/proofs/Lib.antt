@@ -1,0 +1,11 @@
+pub mod Answers
+pub mod Counts
+pub mod Divisions
+pub mod Extensions
+pub mod Places
+pub mod Quotients
+pub mod Ranges
+pub mod Rotations
+pub mod Rows
+pub mod Signs
+pub mod Turns
