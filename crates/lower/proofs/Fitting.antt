@@ -1,5 +1,5 @@
 -- The lowered module of a program of one plain function is in the profile.
-use Rattle.std.proofs.Common.{◌≡◌, ℕ, zero, suc, ◌+◌, ◌*◌, ◌-◌, ◌^◌, ◌<◌, ◌≤◌, List, [], ◌∷◌, ◌++◌, length, All, refl, ap, sym, subst, arith, lit<, lit≤, append_assoc, length-append}
+use Rattle.std.proofs.Common.{◌≡◌, ◌∙◌, ℕ, zero, suc, ◌+◌, ◌*◌, ◌-◌, ◌^◌, ◌<◌, ◌≤◌, List, [], ◌∷◌, ◌++◌, length, All, refl, ap, sym, subst, arith, lit<, lit≤, append_assoc, length-append}
 use Rattle.std.specs.Prelude.{codes}
 use Rattle.std.specs.Int.{byte_at, bytes_low_first, to_le_bytes, w64}
 use Rattle.std.proofs.lemmas.List.Elements.{All-from_recursion, All-cons, All-nil, All-append}
@@ -11,7 +11,7 @@ use Rattle.wasm_ast.specs.declared.modules.LocalRun.{LocalRun}
 use Rattle.wasm_grammar.specs.ProfileInstructions.{FitsU32, IsShortListOf, InstructionFits, InstructionsFit, ConstantFits, none_fit, more_fit}
 use Rattle.wasm_grammar.specs.Profile.{page_limit, entry_limit, FuncTypeFits, LimitsFit, ImportFits, GlobalFits, ExportFits, ElementFits, SegmentFits, NameFits, CodeFits, IsInProfile}
 use Rattle.wasm_spelling.proofs.KnownInstructions.{known_fits, known_constant, one, empty}
-use Rattle.rw_types.specs.declared.instrs.Instr.{Instr, I64Const, Num, Print, Drop}
+use Rattle.rw_types.specs.declared.instrs.Instr.{Instr, I64Const, Num, Print, Drop, Unreachable}
 use Rattle.rw_types.specs.declared.numbers.NumName.TheVariants.{I64Add}
 use Rattle.rw_types.specs.LoneMain.{IsPlain, ArePlain}
 use Rattle.rich_typing.specs.declared.notes.Note.{Note}
@@ -22,6 +22,7 @@ use Rattle.lowering_table.specs.Allocators.{unreachable_code}
 use Rattle.lowering_table.specs.Frames.{room_of}
 use Rattle.lowering_table.specs.Rows.{row, rows}
 use Rattle.lowering_table.specs.Modules.{ArePages, code_of, free_list_bytes, low_function, low_module, main_code, region_start}
+use Rattle.lowering_table.proofs.PlainBodies.{low_function-plain, low_module-plain, plain-height}
 use Rattle.lower.specs.Heights.{IsWithin, AreWithin}
 use Rattle.lower.specs.Laws.{LowIsInProfile}
 use Rattle.lower.specs.Lone.{IsLoneFunc, lone_module}
@@ -97,6 +98,7 @@ row-short x (I64Const n) note = lit≤ tt
 row-short x (Num I64Add) note = lit≤ tt
 row-short x Print note = lit≤ tt
 row-short x Drop note = lit≤ tt
+row-short x Unreachable note = lit≤ tt
 row-short x _ note = lit≤ tt
 
 rows-short : (x : ℕ) (body : List Instr) (notes : List Note) → length (rows x body notes) ≤ 4 * length body
@@ -105,9 +107,11 @@ rows-short x (i ∷ is) [] = omega arith
 rows-short x (i ∷ is) (note ∷ notes) =
     omega (arith, length-append (row x i note) (rows x is notes), row-short x i note, rows-short x is notes)
 
-room-within : (notes : List Note) (end : ℕ) → AreWithin 1000 notes → end ≤ 1000 → room_of notes end ≤ 1000
-room-within [] end within h = h
-room-within (note ∷ notes) end within h = omega (arith, within.0.words, within.0.height, room-within notes end within.1 h)
+room-within : (body : List Instr) (notes : List Note) (end : ℕ) → ArePlain body → AreWithin 1000 notes → end ≤ 1000 → room_of body notes end ≤ 1000
+room-within [] notes end plain within h = h
+room-within (i ∷ is) [] end plain within h = h
+room-within (i ∷ is) (note ∷ notes) end plain within h =
+    omega (arith, plain-height i note plain.0, within.0.words, within.0.height, room-within is notes end plain.1 within.1 h)
 
 -- a code with a run of locals
 code_fits : (locals : ℕ) (body : List w.WInstr) → locals ≤ 50000 → length body < 2 ^ 32 → InstructionsFit body → CodeFits (code_of locals body)
@@ -130,8 +134,9 @@ function-fits : (body : List Instr) (notes : List Note) → ArePlain body → Ar
 function-fits body notes plain within short =
     let end = w.LocalGet 0 ∷ w.GlobalSet 2 ∷ [] in
     let low = rows 0 body notes in
-    code_fits (0 + room_of notes 1 + 2) (low ++ end) (omega (arith, room-within notes 1 within (lit≤ tt))) (omega (arith, length-append low end, rows-short 0 body notes))
-    (rows_fit body notes end plain within (also _ _ (fits-LocalGet 0 (lit< tt)) (also _ _ (fits-GlobalSet 2 (lit< tt)) (none_fit refl))))
+    subst CodeFits (sym (low_function-plain body notes plain))
+    (code_fits (0 + room_of body notes 1 + 2) (low ++ end) (omega (arith, room-within body notes 1 plain within (lit≤ tt))) (omega (arith, length-append low end, rows-short 0 body notes))
+    (rows_fit body notes end plain within (also _ _ (fits-LocalGet 0 (lit< tt)) (also _ _ (fits-GlobalSet 2 (lit< tt)) (none_fit refl)))))
 
 main-fits : CodeFits (main_code (lone_program [] []))
 main-fits =
@@ -207,4 +212,4 @@ lone_fits body notes pages plain within short are =
 pub low_is_in_profile : LowIsInProfile
 low_is_in_profile p pages h are =
     let within = derived_within 1000 h.body [] h.notes _ h.derived tt h.plain (omega (arith, h.short)) in
-    subst IsInProfile (sym (ap (λ (q : Program). low_module q pages) h.is)) (lone_fits h.body h.notes pages h.plain within h.short are)
+    subst IsInProfile (sym (ap (λ (q : Program). low_module q pages) h.is ∙ low_module-plain h.body h.notes pages h.plain)) (lone_fits h.body h.notes pages h.plain within h.short are)

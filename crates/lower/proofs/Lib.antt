@@ -5,3 +5,4 @@ pub mod Nested
 pub mod Fitting
 pub mod ShortContents
 pub mod SevenRow
+pub mod EndedRow

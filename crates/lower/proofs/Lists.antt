@@ -17,6 +17,7 @@ within_at (n ∷ ns) zero d limit lt all = all.0
 within_at (n ∷ ns) (suc k) d limit lt all = within_at ns k d limit (omega arith) all.1
 
 -- the height at the end is among those of which the greatest is taken
-pub room_of-end : (notes : List Note) (end : ℕ) → end ≤ room_of notes end
-room_of-end [] end = omega arith
-room_of-end (n ∷ ns) end = omega (arith, room_of-end ns end)
+pub room_of-end : (body : List Instr) (notes : List Note) (end : ℕ) → end ≤ room_of body notes end
+room_of-end [] notes end = omega arith
+room_of-end (i ∷ is) [] end = omega arith
+room_of-end (i ∷ is) (n ∷ ns) end = omega (arith, room_of-end is ns end)

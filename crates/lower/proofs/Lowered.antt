@@ -6,6 +6,7 @@ use Rattle.rw_program.specs.LonePrograms.{IsLoneProgram, lone_func, lone_program
 use Rattle.rw_program.specs.Programs.{Program}
 use Rattle.lowering_table.specs.declared.Pages.{Pages}
 use Rattle.lowering_table.specs.Modules.{low_module}
+use Rattle.lowering_table.proofs.PlainBodies.{low_module-plain}
 use Rattle.lower.specs.Lone.{IsLoneFunc, lone_module}
 use Rattle.lower.proofs.Derived.{derived_within}
 
@@ -26,7 +27,7 @@ lone_of p fs f h all at = record {
 pub low_module_of : (p : Program) (fs : List LinkedFunc) (f : LinkedFunc) (pages : Pages) (h : IsLoneProgram p) → fs ≡ p.funcs → f ≡ get_or fs 0 f → low_module p pages ≡ lone_module f pages
 low_module_of p fs f pages h all at =
     ap (λ (q : Program). low_module q pages) h.is
-    ∙ (let l : low_module (lone_program h.body h.notes) pages ≡ lone_module (lone_func h.body h.notes) pages = refl in l)
+    ∙ (let l : low_module (lone_program h.body h.notes) pages ≡ lone_module (lone_func h.body h.notes) pages = low_module-plain h.body h.notes pages h.plain in l)
     ∙ ap (λ (g : LinkedFunc). lone_module g pages) (sym (func_of p fs f h all at))
 
 -- modules with equal parts are equal

@@ -5,16 +5,18 @@ use Rattle.wasm_ast.specs.declared.instructions.WInstr as w
 use Rattle.wasm_ast.specs.declared.instructions.WInstr.{roll-WInstr, out-roll-WInstr}
 use Rattle.wasm_ast.specs.declared.instructions.WInstr.TheOpen.{WInstr-F}
 use Rattle.wasm_ast.specs.declared.instructions.WInstr.TheVariants.{rolls-LocalGet, rolls-LocalSet, rolls-GlobalGet, rolls-GlobalSet, rolls-Call, rolls-I64Const, rolls-I32Const, rolls-I64Add, rolls-Nop, rolls-Unreachable}
+use Rattle.wasm_ast.specs.declared.modules.Code.{Code}
 use Rattle.wasm_ast.specs.Immediates.{immediate_in}
 use Rattle.wasm_grammar.specs.Nesting.{greatest, immediate_nesting, nesting, nesting_limit, NestsAtMost, ModuleNestsAtMost}
 use Rattle.wasm_grammar.proofs.InstructionLayers.{nesting-layer}
-use Rattle.rw_types.specs.declared.instrs.Instr.{Instr, I64Const, Num, Print, Drop}
+use Rattle.rw_types.specs.declared.instrs.Instr.{Instr, I64Const, Num, Print, Drop, Unreachable}
 use Rattle.rw_types.specs.declared.numbers.NumName.TheVariants.{I64Add}
 use Rattle.rich_typing.specs.declared.notes.Note.{Note}
 use Rattle.rw_program.specs.declared.linked.LinkedFunc.{LinkedFunc}
 use Rattle.lowering_table.specs.declared.Pages.{Pages}
 use Rattle.lowering_table.specs.Rows.{row, rows}
 use Rattle.lowering_table.specs.Modules.{low_function, region_start}
+use Rattle.lowering_table.proofs.PlainBodies.{low_function-plain}
 use Rattle.lower.specs.Lone.{IsLoneFunc, lone_module}
 
 nesting-roll : (x : WInstr-F w.WInstr) → nesting (roll-WInstr x) ≡ immediate_nesting nesting (immediate_in x)
@@ -60,6 +62,7 @@ nesting-row x (Num I64Add) note =
     omega (arith, nesting-LocalGet (x + note.beneath), nesting-LocalGet (x + note.beneath + 1), nesting-I64Add, nesting-LocalSet (x + note.beneath))
 nesting-row x Print note = omega (arith, nesting-LocalGet (x + note.beneath), nesting-Call 0)
 nesting-row x Drop note = omega (arith, nesting-Nop)
+nesting-row x Unreachable note = omega (arith, nesting-I32Const 3, nesting-GlobalSet 0, nesting-Unreachable)
 nesting-row x _ note = refl
 
 nesting-rows : (x : ℕ) (body : List Instr) (notes : List Note) → greatest nesting (rows x body notes) ≡ 0
@@ -76,7 +79,7 @@ nesting-function f h =
     let end = w.LocalGet 0 ∷ w.GlobalSet 2 ∷ [] in
     let flat : greatest nesting (body ++ end) ≤ 1000 =
     omega (arith, greatest-append body end, nesting-rows 0 h.body h.notes, nesting-LocalGet 0, nesting-GlobalSet 2) in
-    subst P (sym h.is) flat
+    subst P (sym h.is) (subst (λ (c : Code). NestsAtMost nesting_limit c.body) (sym (low_function-plain h.body h.notes h.plain)) flat)
 
 pub nests : (f : LinkedFunc) (pages : Pages) → IsLoneFunc f → ModuleNestsAtMost nesting_limit (lone_module f pages)
 nests f pages h =

@@ -22,7 +22,7 @@ use Rattle.lower.proofs.ShortContents.{low_has_short_contents}
 i64-bytes : (n : ℕ) → instruction_bytes (w.I64Const n) ≡ 0x42 ∷ signed_least 10 (2 ^ 64) n
 i64-bytes n = known_bytes (WInstr-F.I64Const n) (w.I64Const n) (rolls-I64Const n)
 
-i32-bytes : (n : ℕ) → instruction_bytes (w.I32Const n) ≡ 0x41 ∷ signed_least 5 (2 ^ 32) n
+pub i32-bytes : (n : ℕ) → instruction_bytes (w.I32Const n) ≡ 0x41 ∷ signed_least 5 (2 ^ 32) n
 i32-bytes n = known_bytes (WInstr-F.I32Const n) (w.I32Const n) (rolls-I32Const n)
 
 get-bytes : (n : ℕ) → instruction_bytes (w.LocalGet n) ≡ 0x20 ∷ unsigned_least 5 n
@@ -34,13 +34,13 @@ set-bytes n = known_bytes (WInstr-F.LocalSet n) (w.LocalSet n) (rolls-LocalSet n
 read-bytes : (n : ℕ) → instruction_bytes (w.GlobalGet n) ≡ 0x23 ∷ unsigned_least 5 n
 read-bytes n = known_bytes (WInstr-F.GlobalGet n) (w.GlobalGet n) (rolls-GlobalGet n)
 
-write-bytes : (n : ℕ) → instruction_bytes (w.GlobalSet n) ≡ 0x24 ∷ unsigned_least 5 n
+pub write-bytes : (n : ℕ) → instruction_bytes (w.GlobalSet n) ≡ 0x24 ∷ unsigned_least 5 n
 write-bytes n = known_bytes (WInstr-F.GlobalSet n) (w.GlobalSet n) (rolls-GlobalSet n)
 
 call-bytes : (n : ℕ) → instruction_bytes (w.Call n) ≡ 0x10 ∷ unsigned_least 5 n
 call-bytes n = known_bytes (WInstr-F.Call n) (w.Call n) (rolls-Call n)
 
-unreachable-bytes : instruction_bytes w.Unreachable ≡ 0x00 ∷ []
+pub unreachable-bytes : instruction_bytes w.Unreachable ≡ 0x00 ∷ []
 unreachable-bytes = known_bytes WInstr-F.Unreachable w.Unreachable rolls-Unreachable
 
 -- contents from the bytes of the instructions in them
@@ -51,7 +51,7 @@ globals_of code address result =
 abbrev elements_of : List ℕ → List ℕ
 elements_of offset = 0x01 ∷ ((0x00 ∷ ((offset ++ 0x0B ∷ []) ++ (0x01 ∷ 0x04 ∷ []))) ++ [])
 
-abbrev sized : List ℕ → List ℕ
+abbrev pub sized : List ℕ → List ℕ
 sized function = unsigned_least 5 (length function) ++ function
 
 abbrev codes_of : List ℕ → List ℕ → List ℕ → List ℕ

@@ -1,5 +1,5 @@
 -- The sections of the lowered module of a program of one plain function are short.
-use Rattle.std.proofs.Common.{◌≡◌, ℕ, zero, suc, ◌+◌, ◌*◌, ◌-◌, ◌/◌, ◌%◌, ◌^◌, ◌<◌, ◌≤◌, min, Bool, true, false, List, [], ◌∷◌, ◌++◌, length, ap, sym, subst, arith, lit<, lit≤, length-append}
+use Rattle.std.proofs.Common.{◌≡◌, ◌∙◌, ℕ, zero, suc, ◌+◌, ◌*◌, ◌-◌, ◌/◌, ◌%◌, ◌^◌, ◌<◌, ◌≤◌, min, Bool, true, false, List, [], ◌∷◌, ◌++◌, length, ap, sym, subst, arith, lit<, lit≤, length-append}
 use Rattle.std.specs.Prelude.{if◌then◌else◌, nat_lt, nat_le, ◌==◌}
 use Rattle.std.specs.Int.{to_le_bytes, w64}
 use Rattle.std.specs.List.{flat_map}
@@ -19,8 +19,9 @@ use Rattle.wasm_grammar.specs.CanonicalTypes.{vector_bytes}
 use Rattle.wasm_grammar.specs.CanonicalInstructions.{immediate_bytes, instruction_bytes}
 use Rattle.wasm_grammar.specs.CanonicalModules.{HasShortContents, global_bytes, element_bytes, function_bytes, code_bytes, segment_bytes, memory_content, global_content, element_content, code_content, data_content}
 use Rattle.wasm_spelling.proofs.KnownInstructions.{known_bytes, chosen}
-use Rattle.rw_types.specs.declared.instrs.Instr.{Instr, I64Const, Num, Print, Drop}
+use Rattle.rw_types.specs.declared.instrs.Instr.{Instr, I64Const, Num, Print, Drop, Unreachable}
 use Rattle.rw_types.specs.declared.numbers.NumName.TheVariants.{I64Add}
+use Rattle.rw_types.specs.LoneMain.{ArePlain}
 use Rattle.rich_typing.specs.declared.notes.Note.{Note}
 use Rattle.rw_program.specs.LonePrograms.{lone_func, lone_program}
 use Rattle.rw_program.specs.Programs.{Program}
@@ -28,7 +29,8 @@ use Rattle.lowering_table.specs.declared.Pages.{Pages}
 use Rattle.lowering_table.specs.Allocators.{unreachable_code}
 use Rattle.lowering_table.specs.Frames.{room_of}
 use Rattle.lowering_table.specs.Rows.{row, rows}
-use Rattle.lowering_table.specs.Modules.{code_of, memory_pages, free_list_bytes, low_function, low_module, main_code, region_start, word_global}
+use Rattle.lowering_table.specs.Modules.{code_of, first_pages, most_pages, free_list_bytes, low_function, low_module, main_code, region_start, word_global}
+use Rattle.lowering_table.proofs.PlainBodies.{low_function-plain, low_module-plain}
 use Rattle.lower.specs.Laws.{LowHasShortContents}
 use Rattle.lower.specs.Lone.{lone_module}
 use Rattle.lower.proofs.Fitting.{low_first-length}
@@ -110,6 +112,7 @@ row-length x (Num I64Add) note =
     (arith, instructions-length (row x (Num I64Add) note) (of_LocalGet (x + note.beneath), (of_LocalGet (x + note.beneath + 1), (of_I64Add, (of_LocalSet (x + note.beneath), tt)))))
 row-length x Print note = omega (arith, instructions-length (row x Print note) (of_LocalGet (x + note.beneath), (of_Call 0, tt)))
 row-length x Drop note = omega (arith, instructions-length (row x Drop note) (of_Nop, tt))
+row-length x Unreachable note = omega (arith, instructions-length (row x Unreachable note) (of_I32Const 3, (of_GlobalSet 0, (of_Unreachable, tt))))
 row-length x _ note = lit≤ tt
 
 rows-length : (x : ℕ) (body : List Instr) (notes : List Note) → length (flat_map instruction_bytes (rows x body notes)) ≤ 44 * length body
@@ -144,14 +147,14 @@ unreachable-length =
     omega (arith, length-append (0 ∷ []) (instructions ++ 0x0B ∷ []), length-append instructions (0x0B ∷ []), instructions-length body (of_Unreachable, tt)) in
     omega (arith, code-length unreachable_code 13 whole)
 
-function-length : (body : List Instr) (notes : List Note) → length body ≤ 1000 → length (code_bytes (low_function (lone_func body notes))) ≤ 50000
-function-length body notes short =
+function-length : (body : List Instr) (notes : List Note) → ArePlain body → length body ≤ 1000 → length (code_bytes (low_function (lone_func body notes))) ≤ 50000
+function-length body notes plain short =
     let end = w.LocalGet 0 ∷ w.GlobalSet 2 ∷ [] in
     let low = rows 0 body notes in
     let whole : length (flat_map instruction_bytes (low ++ end)) ≤ 44022 =
     omega
     (arith, ap length (flat_map-append instruction_bytes low end), length-append (flat_map instruction_bytes low) (flat_map instruction_bytes end), rows-length 0 body notes, instructions-length end (of_LocalGet 0, (of_GlobalSet 2, tt))) in
-    omega (arith, run-length (0 + room_of notes 1 + 2) (low ++ end) 44022 whole)
+    subst (λ (c : Code). length (code_bytes c) ≤ 50000) (sym (low_function-plain body notes plain)) (omega (arith, run-length (0 + room_of body notes 1 + 2) (low ++ end) 44022 whole))
 
 main-length : length (code_bytes (main_code (lone_program [] []))) ≤ 50000
 main-length =
@@ -163,8 +166,9 @@ global-length g h = omega (arith, length-append (instruction_bytes g.init) (0x0B
 
 memories-short : (body : List Instr) (notes : List Note) (pages : Pages) → length (memory_content (lone_module (lone_func body notes) pages)) < 2 ^ 32
 memories-short body notes pages =
-    let count = unsigned_least 5 (memory_pages pages) in
-    omega (arith, length-append (0x01 ∷ (count ++ count)) [], length-append count count, unsigned-length 5 (memory_pages pages))
+    let first = unsigned_least 5 (first_pages pages) in
+    let most = unsigned_least 5 (most_pages pages) in
+    omega (arith, length-append (0x01 ∷ (first ++ most)) [], length-append first most, unsigned-length 5 (first_pages pages), unsigned-length 5 (most_pages pages))
 
 globals-short : (body : List Instr) (notes : List Note) (pages : Pages) → length (global_content (lone_module (lone_func body notes) pages)) < 2 ^ 32
 globals-short body notes pages =
@@ -182,11 +186,11 @@ elements-short body notes pages =
     omega (arith, length-append (offset ++ 0x0B ∷ []) (0x01 ∷ 0x04 ∷ []), length-append offset (0x0B ∷ []), of_I32Const 0) in
     omega (arith, vector-length element_bytes 20 m.elements (one, tt))
 
-codes-short : (body : List Instr) (notes : List Note) (pages : Pages) → length body ≤ 1000 → length (code_content (lone_module (lone_func body notes) pages)) < 2 ^ 32
-codes-short body notes pages short =
+codes-short : (body : List Instr) (notes : List Note) (pages : Pages) → ArePlain body → length body ≤ 1000 → length (code_content (lone_module (lone_func body notes) pages)) < 2 ^ 32
+codes-short body notes pages plain short =
     let m = lone_module (lone_func body notes) pages in
     omega
-    (arith, vector-length code_bytes 50000 m.codes (unreachable-length, (unreachable-length, (unreachable-length, (function-length body notes short, (main-length, tt))))))
+    (arith, vector-length code_bytes 50000 m.codes (unreachable-length, (unreachable-length, (unreachable-length, (function-length body notes plain short, (main-length, tt))))))
 
 segments-short : (body : List Instr) (notes : List Note) (pages : Pages) → length (data_content (lone_module (lone_func body notes) pages)) < 2 ^ 32
 segments-short body notes pages =
@@ -202,12 +206,12 @@ segments-short body notes pages =
     (arith, length-append (offset ++ 0x0B ∷ []) (unsigned_least 5 (length bytes) ++ bytes), length-append offset (0x0B ∷ []), length-append (unsigned_least 5 (length bytes)) bytes, unsigned-length 5 (length bytes), of_I32Const 8, size) in
     omega (arith, vector-length segment_bytes 40 m.segments (one, tt))
 
-lone_short : (body : List Instr) (notes : List Note) (pages : Pages) → length body ≤ 1000 → HasShortContents (lone_module (lone_func body notes) pages)
-lone_short body notes pages short id =
+lone_short : (body : List Instr) (notes : List Note) (pages : Pages) → ArePlain body → length body ≤ 1000 → HasShortContents (lone_module (lone_func body notes) pages)
+lone_short body notes pages plain short id =
     chosen (id == 1) _ _ (lit< tt) (chosen (id == 2) _ _ (lit< tt) (chosen (id == 3) _ _ (lit< tt) (chosen (id == 4) _ _ (lit< tt)
     (chosen (id == 5) _ _ (memories-short body notes pages) (chosen (id == 6) _ _ (globals-short body notes pages) (chosen (id == 7) _ _ (lit< tt) (chosen (id == 8) _ _ (lit< tt)
-    (chosen (id == 9) _ _ (elements-short body notes pages) (chosen (id == 10) _ _ (codes-short body notes pages short) (chosen (id == 11) _ _ (segments-short body notes pages) (lit< tt)))))))))))
+    (chosen (id == 9) _ _ (elements-short body notes pages) (chosen (id == 10) _ _ (codes-short body notes pages plain short) (chosen (id == 11) _ _ (segments-short body notes pages) (lit< tt)))))))))))
 
 pub low_has_short_contents : LowHasShortContents
 low_has_short_contents p pages h are =
-    subst HasShortContents (sym (ap (λ (q : Program). low_module q pages) h.is)) (lone_short h.body h.notes pages h.short)
+    subst HasShortContents (sym (ap (λ (q : Program). low_module q pages) h.is ∙ low_module-plain h.body h.notes pages h.plain)) (lone_short h.body h.notes pages h.plain h.short)

@@ -3,3 +3,4 @@ pub mod Parts
 pub mod Lone
 pub mod Laws
 pub mod SevenRow
+pub mod EndedRow

@@ -13,7 +13,7 @@ use Rattle.wasm_ast.specs.declared.modules.WGlobal.{WGlobal}
 use Rattle.wasm_ast.specs.declared.modules.ImportKind.TheVariants as import_kind
 use Rattle.wasm_ast.specs.declared.modules.ExportKind.TheVariants as export_kind
 use Rattle.lowering_table.specs.declared.Pages.{Pages}
-use Rattle.lowering_table.specs.Modules.{print_type, alloc_type, start_type, word_global, region_start, memory_pages, free_list_bytes}
+use Rattle.lowering_table.specs.Modules.{print_type, alloc_type, start_type, word_global, region_start, first_pages, most_pages, free_list_bytes}
 
 abbrev pub lone_types : List FuncType
 lone_types = print_type ∷ alloc_type ∷ record { params = []; result = None } ∷ start_type ∷ []
@@ -22,7 +22,7 @@ abbrev pub lone_imports : List Import
 lone_imports = record { «module» = codes "rw"; name = codes "print"; what = import_kind.Func 0 } ∷ []
 
 abbrev pub lone_memories : Pages → List Limits
-lone_memories pages = record { min = memory_pages pages; max = Some (memory_pages pages) } ∷ []
+lone_memories pages = record { min = first_pages pages; max = Some (most_pages pages) } ∷ []
 
 abbrev pub lone_globals : Pages → List WGlobal
 lone_globals pages = record { ty = I32; mutable = true; init = I32Const 0 } ∷ word_global (region_start pages) ∷ word_global 0 ∷ []

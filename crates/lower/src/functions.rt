@@ -43,22 +43,27 @@ pub fn unreachable(alloc: Global) -> Result<Code, LowerError>
 }
 
 /// The greatest height of a body with these notes, and this height at its end.
-pub fn room(notes: &[Note], end: u64) -> u64
+pub fn room(body: &[Instr], notes: &[Note], end: u64) -> u64
+    requires plain { ArePlain body.now }
     requires within { AreWithin 1000 notes.now }
     requires end { end ≤ 1000 }
-    ensures room { result ≡ room_of notes.now end }
+    ensures room { result ≡ room_of body.now notes.now end }
     ensures bound { result ≤ 1000 }
 {
     let mut most = end;
-    for note in notes {
-        most = most.max(height(note));
+    for (at, instr) in body.iter().enumerate() {
+        let Some(note) = notes.get(at) else {
+            break;
+        };
+        most = most.max(height(instr, note));
     }
     most
 }
 
-fn height(note: &Note) -> u64
-    requires { IsWithin 1000 note.now }
-    ensures height { result ≡ height_of note.now }
+fn height(_instr: &Instr, note: &Note) -> u64
+    requires plain { IsPlain _instr.now }
+    requires within { IsWithin 1000 note.now }
+    ensures height { result ≡ height_of _instr.now note.now }
     ensures bound { result ≤ 1000 }
 {
     note.beneath + note.taken.len() as u64

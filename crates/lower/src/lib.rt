@@ -8,6 +8,8 @@ mod low;
 mod parts;
 
 pub use error::LowerError;
-pub use laws::{low_has_short_contents, low_is_in_profile, seven_is_lowered};
+pub use laws::{
+    low_has_short_contents, low_is_in_profile, seven_is_lowered, unreachable_is_lowered,
+};
 pub use low::lower;
 pub use lowering_table::Pages;

@@ -72,12 +72,13 @@ fn function(alloc: Global, func: &LinkedFunc) -> Result<Code, LowerError>
     requires { IsLoneFunc func.now }
     ensures { IfOk result (λ code. code ≡ low_function func.now) }
 {
+    let instrs = func.body.as_slice();
     let notes = func.notes.as_slice();
     let mut body = List::new(alloc);
-    functions::push_rows(&mut body, 0, func.body.as_slice(), notes)?;
+    functions::push_rows(&mut body, 0, instrs, notes)?;
     body.push(WInstr::LocalGet(0))?;
     body.push(WInstr::GlobalSet(2))?;
-    functions::code(alloc, functions::room(notes, 1) as u32 + 2, body)
+    functions::code(alloc, functions::room(instrs, notes, 1) as u32 + 2, body)
 }
 
 // The code of the exported main: it calls the linked function, and gets its result.

@@ -4,3 +4,5 @@ pub mod Walks
 pub mod Relation
 pub mod Instructions
 pub mod Behaves
+pub mod Starting
+pub mod Rows

@@ -30,3 +30,9 @@ stored_beneath (v ∷ vs) xs j x le h = (get_set_before xs (length vs) j x (omeg
 pub stored_on : (vs xs : List ℕ) (j x : ℕ) → j ≡ length vs → j < length xs → Stored vs xs → Stored (x ∷ vs) (slice_set xs j x)
 stored_on vs xs j x e lt h =
     (subst (λ (k : ℕ). slice_get (slice_set xs j x) k ≡ Some x) e (get_set_same xs j x lt), stored_beneath vs xs j x (omega (arith, e)) h)
+
+-- a local that is there has a value
+pub found : (xs : List ℕ) (j : ℕ) → j < length xs → (x : ℕ) × (slice_get xs j ≡ Some x)
+found [] j lt = absurd (omega (arith, lt))
+found (x ∷ xs) zero lt = (x, refl)
+found (x ∷ xs) (suc j) lt = found xs j (omega (arith, lt))

@@ -23,12 +23,15 @@ gives_same a b e = cc
 pub derives_on : {is : List Instr} {notes : List Note} {ts after : List Ty} → Gives ts ≡ Gives after → Derives [] is after notes (unr_i64 ∷ []) → Derives [] is ts notes (unr_i64 ∷ [])
 derives_on {is} {notes} {ts} {after} goes d = subst (λ (us : List Ty). Derives [] is us notes (unr_i64 ∷ [])) (sym (gives_same ts after goes)) d
 
--- the function's call, with these operands, and the program after it
+-- a call that gives one number, with these operands
+abbrev pub call_with : List ℕ → List Instr → rc.Here
+call_with vs rest = record { results = 1; sizes = []; locals = []; operands = map (λ v. rc.Number v) vs; rest = rest; levels = [] }
+
+-- the function's call, with these operands, and the program's own list after it
 abbrev pub in_call : List ℕ → List Instr → rc.Config
 in_call vs rest = record {
-  calls = record { function = 0; binders = []; locals = []; operands = map (λ v. rc.Number v) vs; rest = rest; levels = [] } ∷ [];
-  results = [];
-  entries = [];
+  here = call_with vs rest;
+  callers = call_with [] [] ∷ [];
   globals = [];
   stores = record { linear = []; unrestricted = [] };
 }

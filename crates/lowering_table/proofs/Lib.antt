@@ -1,4 +1,6 @@
+pub mod Worked
 pub mod SameTypes
 pub mod TypePlaces
 pub mod TypeOrder
 pub mod TypeLaws
+pub mod PlainBodies

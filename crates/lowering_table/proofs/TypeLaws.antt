@@ -29,13 +29,13 @@ types-are_in_order p =
       ordered = λ i j t u first second lt. absurd (none-some t first);
     })
 
--- the indices of linked functions, before that of the exported main
-indices : (types : List FuncType) (fs : List LinkedFunc) → ((k : ℕ) (t : FuncType) → slice_get (map low_type fs ++ start_type ∷ []) k ≡ Some t → Has types t) →
+-- the indices of linked functions and that of the exported main, behind whose types others stand
+indices : (types : List FuncType) (fs : List LinkedFunc) (others : List FuncType) → ((k : ℕ) (t : FuncType) → slice_get (map low_type fs ++ start_type ∷ others) k ≡ Some t → Has types t) →
     map (λ n. slice_get types n) (map (λ f. type_index (low_type f) types) fs ++ type_index start_type types ∷ []) ≡ map (λ t. Some t) (map low_type fs ++ start_type ∷ [])
-indices types [] has = ap (λ (o : Option FuncType). o ∷ []) (has 0 start_type refl)
-indices types (f ∷ fs) has =
+indices types [] others has = ap (λ (o : Option FuncType). o ∷ []) (has 0 start_type refl)
+indices types (f ∷ fs) others has =
     let first : Has types (low_type f) = has 0 (low_type f) refl in
-    let rest = indices types fs (λ k t h. has (suc k) t h) in
+    let rest = indices types fs others (λ k t h. has (suc k) t h) in
     λ i. first i ∷ rest i
 
 pub functions-have_their_types : FunctionsHaveTheirTypes
@@ -43,5 +43,5 @@ functions-have_their_types p pages =
     let types = low_types p in
     let print = used_types-are_listed p 0 _ refl in
     let alloc = used_types-are_listed p 1 _ refl in
-    let rest = indices types p.funcs (λ k t h. used_types-are_listed p (suc (suc k)) t h) in
+    let rest = indices types p.funcs _ (λ k t h. used_types-are_listed p (suc (suc k)) t h) in
     λ i. alloc i ∷ print i ∷ alloc i ∷ rest i

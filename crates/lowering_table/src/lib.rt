@@ -1,8 +1,9 @@
 //! The lowering table: the WebAssembly module that a linked program is lowered to, an equation for each
-//! instruction. It is definitions, the page counts that they are given, and a law of its types.
+//! instruction. It is definitions, the page counts that they are given, a law of its types, and rows that are computed.
 #![tactic(auto)]
 
 ghost use Rattle.lowering_table.specs.TypeLaws.{FunctionsHaveTheirTypes, ListedTypesAreUsed, TypesAreInOrder, TypesAreListedOnce, UsedTypesAreListed};
+ghost use Rattle.lowering_table.specs.Worked.{EndedFunction, EndedInitialiser, SwapHeight, TwoInitialisers};
 
 /// How many pages of 65,536 bytes the memory of a lowered program has: 1 to 512 for the linear part, and 0 to 512
 /// for the unrestricted region; this project's own.
@@ -21,4 +22,13 @@ pub fn types_are_indexed()
     ensures used { ListedTypesAreUsed }
     ensures order { TypesAreInOrder }
     ensures functions { FunctionsHaveTheirTypes }
+{}
+
+/// Rows: the code of a function whose list is ended at once; that of an exported main with two initialisers, and with one whose
+/// list is ended at once; and the height of a swap.
+pub fn rows_are_lowered()
+    ensures ended { EndedFunction }
+    ensures initialisers { TwoInitialisers }
+    ensures ended_initialiser { EndedInitialiser }
+    ensures swap { SwapHeight }
 {}

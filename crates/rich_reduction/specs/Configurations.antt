@@ -1,7 +1,6 @@
 -- Values and the configurations of a linked program that runs. This project's own.
-use Rattle.std.specs.Prelude.{ℕ, List, Option}
+use Rattle.std.specs.Prelude.{ℕ, List, [], ◌∷◌, Option}
 use Rattle.rw_types.specs.declared.instrs.Instr.{Instr}
-use Rattle.rw_types.specs.declared.types.Binder.{Binder}
 use Rattle.rw_types.specs.declared.types.Mem.{Mem}
 use Rattle.rw_types.specs.declared.types.Priv.{Priv}
 
@@ -28,9 +27,15 @@ mutual
     none : Vals
     more : Val → Vals → Vals
 
--- what a cell holds
+-- a slot of a struct: its size in words, which stays, and its value
+pub record Slot : Type 0 where
+  pub size : ℕ
+  pub value : Val
+
+-- what a cell holds: the slots of a struct; the number of a case and its value; the elements of an array; a value of a
+-- hidden type
 pub data Content : Type 0 where
-  Slots : List Val → Content
+  Slots : List Slot → Content
   Case : ℕ → Val → Content
   Elements : List Val → Content
   Hidden : Val → Content
@@ -50,38 +55,42 @@ pub data Aim : Type 0 where
   Past : Aim
   Back : List Instr → Aim
 
--- an open list: where a branch to it leads and how many operands it takes, how many its end leaves, and of the list around
--- it the binders, the operands, the top one first, and what is left
+-- an open list: where a branch to it leads and how many operands it takes, how many its end leaves, and of the list around it
+-- the sizes of type variables, the operands, the top one first, and what is left
 pub record Level : Type 0 where
   pub aim : Aim
   pub takes : ℕ
   pub gives : ℕ
-  pub binders : List Binder
+  pub sizes : List ℕ
   pub beneath : List Val
   pub rest : List Instr
 
--- a call that runs: its function, the binders in force, its locals, the operands, the top one first, what is left of the
--- list, and the open lists, the innermost first
+-- a call: the number of its results, the sizes in words of the type variables in force, the innermost first, its locals, the
+-- operands, the top one first, what is left of the list, and the open lists, the innermost first
 pub record Here : Type 0 where
-  pub function : ℕ
-  pub binders : List Binder
+  pub results : ℕ
+  pub sizes : List ℕ
   pub locals : List Val
   pub operands : List Val
   pub rest : List Instr
   pub levels : List Level
 
--- what the program's own list does: it calls a function
-pub data Entry : Type 0 where
-  CallOf : ℕ → Entry
-
--- the calls, the innermost first; the operands of the program's own list, and what is left of it; globals and stores
+-- the call that runs, those that wait for it, the innermost first and the program's own list last, globals and stores
 pub record Config : Type 0 where
-  pub calls : List Here
-  pub results : List Val
-  pub entries : List Entry
+  pub here : Here
+  pub callers : List Here
   pub globals : List Val
   pub stores : Stores
 
--- what a step says: that a number was printed
+-- what a step says: that a number was printed; that a cell of so many words was made; that it made, read, wrote, freed or took
+-- out a cell; that a cell was freed or taken out
 pub data Event : Type 0 where
   Print : ℕ → Event
+  Made : Location → ℕ → Event
+  Touched : Location → Event
+  Freed : Location → Event
+
+-- the numbers that an event prints
+abbrev pub prints : Event → List ℕ
+prints (Print n) = n ∷ []
+prints _ = []

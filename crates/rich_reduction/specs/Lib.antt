@@ -1,4 +1,5 @@
 pub mod Configurations
+pub mod Turns
 pub mod Steps
 pub mod Starts
 pub mod Rows

@@ -1,88 +1,80 @@
 -- One step of a linked program that runs: an instruction, or the leaving of a list at its end. An instruction that has no
 -- case here yet has no step. This project's own.
-use Rattle.std.specs.Prelude.{ℕ, ◌+◌, ◌^◌, ◌%◌, List, [], ◌∷◌, ◌++◌, Option, Some, None, length, reverse, slice_get}
+use Rattle.std.specs.Prelude.{ℕ, ◌+◌, ◌^◌, ◌%◌, List, [], ◌∷◌, ◌++◌, length, map, replicate, reverse, slice_get, slice_set}
 use Rattle.std.specs.Int.{cast_signed, w64}
+use Rattle.rw_types.specs.declared.instrs.BlockSig.{BlockSig}
 use Rattle.rw_types.specs.declared.instrs.Instr as i
 use Rattle.rw_types.specs.declared.numbers.NumName.TheVariants.{I64Add}
+use Rattle.rich_typing.specs.Kinds.{kinds_of}
 use Rattle.rw_program.specs.declared.linked.LinkedFunc.{LinkedFunc}
 use Rattle.machine_steps.specs.declared.End.TheVariants.{Value}
 use Rattle.machine_steps.specs.Steps.{Turn, Went, Ended, NoStep, with_top}
-use Rattle.rich_reduction.specs.Configurations.{Val, Number, Empty, Level, Here, Entry, CallOf, Config, Event, Print}
+use Rattle.rich_reduction.specs.Configurations.{Val, Number, Empty, Aim, Past, Level, Here, Config, Event, Print}
+use Rattle.rich_reduction.specs.Turns.{with_found, with_one, with_number, with_all, goes_on, leaves}
 
--- the top operand, where it is a number
-abbrev pub with_number : List Val → (ℕ → List Val → Turn Event Config) → Turn Event Config
-with_number (Number n ∷ beneath) then = then n beneath
-with_number _ then = NoStep
+-- a list of this signature is entered with these operands; a branch to it leads so and takes so many
+abbrev pub enter : Aim → ℕ → BlockSig → List i.Instr → List Val → List Val → Here → Config → Turn Event Config
+enter aim takes sig body operands beneath here c = goes_on (record here {
+  operands = operands;
+  rest = body;
+  levels = record {
+    aim = aim;
+    takes = takes;
+    gives = length sig.results;
+    sizes = here.sizes;
+    beneath = beneath;
+    rest = here.rest;
+  } ∷ here.levels;
+}) c
 
--- the call of the function with this number, with these operands, the last argument first
-abbrev pub enter : ℕ → Option LinkedFunc → List Val → Config → Turn Event Config
-enter n None arguments c = NoStep
-enter n (Some f) arguments c = Went [] (record c {
-  calls = record {
-    function = n;
-    binders = f.ty.binders;
-    locals = reverse arguments ++ empty_locals f.locals;
+-- the operands on top are the arguments of a call
+abbrev pub call : LinkedFunc → Here → Config → Turn Event Config
+call f here c = with_top (length f.ty.params) here.operands (λ arguments beneath. Went [] (record c {
+  here = record {
+    results = length f.ty.results;
+    sizes = map (λ k. k.size) (kinds_of f.ty.binders);
+    locals = reverse arguments ++ replicate (length f.locals) Empty;
     operands = [];
     rest = f.body;
     levels = [];
-  } ∷ c.calls;
-})
-  where
-    empty_locals : List ℕ → List Val
-    empty_locals [] = []
-    empty_locals (n ∷ ns) = Empty ∷ empty_locals ns
-
--- the call goes on so; `callers` are the calls that wait for it
-abbrev pub goes_on : Here → List Here → Config → Turn Event Config
-goes_on here callers c = Went [] (record c { calls = here ∷ callers })
-
--- a call is over with these results
-abbrev pub give : List Val → List Here → Config → Turn Event Config
-give vs [] c = Went [] (record c { calls = []; results = vs ++ c.results })
-give vs (caller ∷ callers) c = goes_on (record caller { operands = vs ++ caller.operands }) callers c
+  };
+  callers = record here { operands = beneath } ∷ c.callers;
+}))
 
 -- the program ends with this value
 abbrev pub ends_with : List Val → Config → Turn Event Config
 ends_with (Number n ∷ []) c = Ended [] (Value (cast_signed w64 n)) c
 ends_with _ c = NoStep
 
+-- a call is over with these results
+abbrev pub give : List Val → List Here → Config → Turn Event Config
+give vs [] c = ends_with vs c
+give vs (caller ∷ callers) c = Went [] (record c { here = record caller { operands = vs ++ caller.operands }; callers = callers })
+
+-- the end of a list: of a function or of the program, or of a list within
+abbrev pub leave : List Level → Here → Config → Turn Event Config
+leave [] here c = with_all here.results here.operands (λ vs. give vs c.callers c)
+leave (l ∷ levels) here c = with_all l.gives here.operands
+    (λ vs. goes_on (record here { sizes = l.sizes; operands = vs ++ l.beneath; rest = l.rest; levels = levels }) c)
+
 module _ (funcs : List LinkedFunc) where
-  abbrev pub leave_function : Option LinkedFunc → Here → List Here → Config → Turn Event Config
-  leave_function None here callers c = NoStep
-  leave_function (Some f) here callers c = with_top (length f.ty.results) here.operands (λ vs beneath. give vs callers c)
-
-  -- the end of a list
-  abbrev pub leave : List Level → Here → List Here → Config → Turn Event Config
-  leave [] here callers c = leave_function (slice_get funcs here.function) here callers c
-  leave (l ∷ levels) here callers c =
-      with_top l.gives here.operands (λ vs beneath. goes_on (record here { binders = l.binders; operands = vs ++ l.beneath; rest = l.rest; levels = levels }) callers c)
-
   -- an instruction; `here` has what follows it as its rest
-  abbrev pub act : i.Instr → Here → List Here → Config → Turn Event Config
-  act (i.I64Const n) here callers c = goes_on (record here { operands = Number n ∷ here.operands }) callers c
-  act (i.Num I64Add) here callers c =
-      with_number here.operands (λ right under. with_number under (λ left beneath. goes_on (record here { operands = Number ((left + right) % 2 ^ 64) ∷ beneath }) callers c))
-  act i.Print here callers c =
-      with_number here.operands (λ n beneath. Went (Print n ∷ []) (record c { calls = record here { operands = beneath } ∷ callers }))
-  act i.Drop here callers c = with_top 1 here.operands (λ vs beneath. goes_on (record here { operands = beneath }) callers c)
-  act _ here callers c = NoStep
+  abbrev pub act : i.Instr → Here → Config → Turn Event Config
+  act (i.I64Const n) here c = leaves (Number n ∷ here.operands) here c
+  act (i.Num I64Add) here c =
+      with_number here.operands (λ right under. with_number under (λ left beneath. leaves (Number ((left + right) % 2 ^ 64) ∷ beneath) here c))
+  act i.Print here c = with_number here.operands (λ n beneath. Went (Print n ∷ []) (record c { here = record here { operands = beneath } }))
+  act i.Drop here c = with_one here.operands (λ v beneath. leaves beneath here c)
+  act (i.Block' sig m body) here c = with_top (length sig.params) here.operands
+      (λ operands beneath. enter Past (length sig.results) sig (i.items-the_row-Instr _ body) operands beneath here c)
+  act (i.GlobalSet n) here c = with_one here.operands (λ v beneath. with_found (slice_get c.globals n)
+      (λ old. Went [] (record c { here = record here { operands = beneath }; globals = slice_set c.globals n v })))
+  act (i.Call n arguments) here c = with_found (slice_get funcs n) (λ f. call f here c)
+  act _ here c = NoStep
 
-  abbrev pub step_in : List i.Instr → Here → List Here → Config → Turn Event Config
-  step_in [] here callers c = leave here.levels here callers c
-  step_in (i ∷ rest) here callers c = act i (record here { rest = rest }) callers c
-
-  -- a step of the program's own list
-  abbrev pub step_outside : List Entry → Config → Turn Event Config
-  step_outside [] c = ends_with c.results c
-  step_outside (CallOf n ∷ entries) c = enter n (slice_get funcs n) [] (record c { entries = entries })
-
-  abbrev pub step_with : List Here → Config → Turn Event Config
-  step_with [] c = step_outside c.entries c
-  step_with (here ∷ callers) c = step_in here.rest here callers c
+  abbrev pub step_at : List i.Instr → Config → Turn Event Config
+  step_at [] c = leave c.here.levels c.here c
+  step_at (i ∷ rest) c = act i (record c.here { rest = rest }) c
 
   abbrev pub step : Config → Turn Event Config
-  step c = step_with c.calls c
-
--- the numbers that an event prints
-abbrev pub prints : Event → List ℕ
-prints (Print n) = n ∷ []
+  step c = step_at c.here.rest c

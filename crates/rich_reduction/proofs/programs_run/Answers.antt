@@ -1,4 +1,4 @@
-use Rattle.rich_reduction.proofs.Rows.{printing-takes, dropping-takes, adding-takes, drop-is_stuck}
+use Rattle.rich_reduction.proofs.Rows.{adding-takes, drop-stops_short, dropping-takes, globals-are_set, globals-take, initialiser-stops_short, left_over-stops_short, printing-takes}
 use Rattle.rich_reduction.proofs.programs_run.Goals as goal
 
 pub returns-clause-printing : goal.returns-clause-printing
@@ -10,5 +10,17 @@ returns-clause-dropping c = dropping-takes
 pub returns-clause-adding : goal.returns-clause-adding
 returns-clause-adding c = adding-takes
 
-pub returns-clause-stuck : goal.returns-clause-stuck
-returns-clause-stuck c = drop-is_stuck
+pub returns-clause-globals : goal.returns-clause-globals
+returns-clause-globals c = globals-take
+
+pub returns-clause-values : goal.returns-clause-values
+returns-clause-values c = globals-are_set
+
+pub returns-clause-not_there : goal.returns-clause-not_there
+returns-clause-not_there c = drop-stops_short
+
+pub returns-clause-left_over : goal.returns-clause-left_over
+returns-clause-left_over c = left_over-stops_short
+
+pub returns-clause-left_in_a_list : goal.returns-clause-left_in_a_list
+returns-clause-left_in_a_list c = initialiser-stops_short
