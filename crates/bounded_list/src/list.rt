@@ -111,32 +111,3 @@ impl<T: Copy> List<T> {
         List::from_vec(Vec::from_slice(alloc, items)?)
     }
 }
-
-#[cfg(test)]
-mod tests {
-    use super::*;
-    use std::test::Fail;
-
-    #[test]
-    fn holds_its_entries(rt: HostRuntime) -> Result<(), Fail> {
-        let mut list = List::new(rt.alloc());
-        assert!(rt; list.is_empty());
-        list.push(7)?;
-        list.push(9)?;
-        assert_eq!(rt; list.as_slice(), [7u32, 9].as_slice());
-        assert_eq!(rt; list.get(1).copied(), Some(9));
-        assert_eq!(rt; list.get(2).copied(), None);
-        assert_eq!(rt; list.pop(), Some(9));
-        assert_eq!(rt; list.len(), 1);
-        Ok(())
-    }
-
-    #[test]
-    fn copies_slices(rt: HostRuntime) -> Result<(), Fail> {
-        let list = List::from_slice(rt.alloc(), b"main")?;
-        assert_eq!(rt; list.as_slice(), b"main".as_slice());
-        let same = List::from_vec(vec![in rt.alloc(); 5u32, 7]?)?;
-        assert_eq!(rt; same.as_slice(), [5, 7].as_slice());
-        Ok(())
-    }
-}

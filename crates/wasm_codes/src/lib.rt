@@ -13,6 +13,3 @@ mod token;
 
 pub use code::CodeState;
 pub use laws::each_entry_wants_a_byte;
-
-#[cfg(test)]
-mod tests;

@@ -15,6 +15,3 @@ pub use error::EncodeError;
 pub use module::encode;
 pub use nesting::nests_at_most;
 pub use section::{OpenSection, open_section};
-
-#[cfg(test)]
-mod tests;

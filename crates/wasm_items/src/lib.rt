@@ -35,6 +35,3 @@ pub use one_byte::{ByteState, ValueTypeState};
 pub use progress::Progress;
 pub use tags::{block_type, external_kind, flag, only, value_type};
 pub use vector::{ByteVector, Numbers, VectorState};
-
-#[cfg(test)]
-mod tests;

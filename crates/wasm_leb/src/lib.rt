@@ -122,6 +122,3 @@ pub fn has_at_most()
     ensures s32 { HasAtMost IsS32 5 }
     ensures s64 { HasAtMost IsS64 10 }
 {}
-
-#[cfg(test)]
-mod tests;
