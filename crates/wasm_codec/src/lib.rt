@@ -11,6 +11,3 @@ pub use round_trips::{canonical_form, round_trip};
 pub use wasm_decode::{Decoded, Decoder, decode};
 pub use wasm_encode::{EncodeError, OpenSection, encode, open_section};
 pub use wasm_reading::{DecodeError, DecodeFault};
-
-#[cfg(test)]
-mod tests;

@@ -1,7 +1,0 @@
-//! Tests of copies and comparisons of modules.
-#![tactic(auto)]
-
-#[cfg(test)]
-mod adding_module;
-#[cfg(test)]
-mod rows;
