@@ -1,5 +1,6 @@
 //! Integers of 32 and 64 bits, as WebAssembly computes them (WebAssembly Core Specification 1.0, section 4.3.2).
 //! Definitions, as arithmetic on whole numbers: `specs/`. Each call is its definition.
+//! Laws of the definitions: `laws::numbers_obey`; rows that are computed: `laws::numbers_compute`.
 #![tactic(auto)]
 
 ghost use Rattle.std.specs.Prelude.{◌≡◌, ◌==◌, IfOk};

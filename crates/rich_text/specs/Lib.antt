@@ -1,0 +1,16 @@
+pub mod Forms
+pub mod Tokens
+pub mod Places
+pub mod Utf8
+pub mod Lexing
+pub mod Numbers
+pub mod Grammars
+pub mod Instructions
+pub mod FirstVersion
+pub mod Reading
+pub mod Texts
+pub mod Canonical
+pub mod Views
+pub mod Layout
+pub mod Writable
+pub mod Rows

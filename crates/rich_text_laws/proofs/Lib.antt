@@ -1,0 +1,12 @@
+pub mod Canonical
+pub mod Decimals
+pub mod Encoded
+pub mod Exact
+pub mod Faults
+pub mod Headed
+pub mod Laid
+pub mod Looking
+pub mod Made
+pub mod Standing
+pub mod Whole
+pub mod Writing
