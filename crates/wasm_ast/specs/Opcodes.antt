@@ -1,113 +1,113 @@
--- The opcode of each instruction, in rising order (WebAssembly Core Specification 1.0, section 5.4).
-use Rattle.std.specs.Prelude.{ℕ}
+-- The opcode of each instruction, by kind of operation (WebAssembly Core Specification 1.0, section 5.4). There the
+-- instructions of one kind stand in a row, and so the opcode of one is that of the first and its place behind it.
+use Rattle.std.specs.Prelude.{ℕ, ◌+◌, ◌*◌, ◌==◌, if◌then◌else◌}
+use Rattle.wasm_operators.specs.declared.UnOp.{UnOp}
+use Rattle.wasm_operators.specs.declared.UnOp.TheVariants as unary
+use Rattle.wasm_operators.specs.declared.BinOp.{BinOp}
+use Rattle.wasm_operators.specs.declared.BinOp.TheVariants as binary
+use Rattle.wasm_operators.specs.declared.CmpOp.{CmpOp}
+use Rattle.wasm_operators.specs.declared.CmpOp.TheVariants as compare
+use Rattle.wasm_operators.specs.declared.CvtOp.TheVariants as convert
+use Rattle.wasm_ast.specs.declared.types.ValTy.{ValTy}
+use Rattle.wasm_ast.specs.declared.types.ValTy.TheVariants.{I32, I64}
+use Rattle.wasm_ast.specs.declared.operation.Access.{Access}
 use Rattle.wasm_ast.specs.declared.instructions.WInstr.{WInstr, out-WInstr}
 use Rattle.wasm_ast.specs.declared.instructions.WInstr.TheOpen.{WInstr-F}
+use Rattle.wasm_ast.specs.Operations.{Operation, operation_in}
 
--- the first byte of an instruction, of which `A` stands for the nested ones; an if begins alike with and without `else`
+-- the place of a comparison behind `eq`
+abbrev pub comparison_place : CmpOp → ℕ
+comparison_place compare.Eq = 0
+comparison_place compare.Ne = 1
+comparison_place compare.LtS = 2
+comparison_place compare.LtU = 3
+comparison_place compare.GtS = 4
+comparison_place compare.GtU = 5
+comparison_place compare.LeS = 6
+comparison_place compare.LeU = 7
+comparison_place compare.GeS = 8
+comparison_place compare.GeU = 9
+
+-- the place of an operator of one integer behind `clz`
+abbrev pub unary_place : UnOp → ℕ
+unary_place unary.Clz = 0
+unary_place unary.Ctz = 1
+unary_place unary.Popcnt = 2
+
+-- the place of an operator of two integers behind `add`
+abbrev pub binary_place : BinOp → ℕ
+binary_place binary.Add = 0
+binary_place binary.Sub = 1
+binary_place binary.Mul = 2
+binary_place binary.DivS = 3
+binary_place binary.DivU = 4
+binary_place binary.RemS = 5
+binary_place binary.RemU = 6
+binary_place binary.And = 7
+binary_place binary.Or = 8
+binary_place binary.Xor = 9
+binary_place binary.Shl = 10
+binary_place binary.ShrS = 11
+binary_place binary.ShrU = 12
+binary_place binary.Rotl = 13
+binary_place binary.Rotr = 14
+
+-- the place of a load of a part of a value behind that of a byte with a sign
+abbrev pub narrow_place : Access → ℕ
+narrow_place access = 2 * access.log_width + (if access.signed then 0 else 1)
+
+-- the opcode of a load: of a whole value, or of a part
+abbrev pub load_opcode : ValTy → Access → ℕ
+load_opcode I32 access = if access.log_width == 2 then 0x28 else 0x2C + narrow_place access
+load_opcode I64 access = if access.log_width == 3 then 0x29 else 0x30 + narrow_place access
+
+-- the opcode of a store: of a whole value, or of a part
+abbrev pub store_opcode : ValTy → ℕ → ℕ
+store_opcode I32 log_width = if log_width == 2 then 0x36 else 0x3A + log_width
+store_opcode I64 log_width = if log_width == 3 then 0x37 else 0x3C + log_width
+
+-- the opcode of an operation; an if begins alike with and without `else`
+abbrev pub opcode_by : {A : Type 0} → Operation A → ℕ
+opcode_by Operation.Unreachable = 0x00
+opcode_by Operation.Nop = 0x01
+opcode_by (Operation.Block _ _) = 0x02
+opcode_by (Operation.Loop _ _) = 0x03
+opcode_by (Operation.If _ _) = 0x04
+opcode_by (Operation.IfElse _ _ _) = 0x04
+opcode_by (Operation.Br _) = 0x0C
+opcode_by (Operation.BrIf _) = 0x0D
+opcode_by (Operation.BrTable _ _) = 0x0E
+opcode_by Operation.Return = 0x0F
+opcode_by (Operation.Call _) = 0x10
+opcode_by (Operation.CallIndirect _) = 0x11
+opcode_by Operation.Drop = 0x1A
+opcode_by Operation.Select = 0x1B
+opcode_by (Operation.LocalGet _) = 0x20
+opcode_by (Operation.LocalSet _) = 0x21
+opcode_by (Operation.LocalTee _) = 0x22
+opcode_by (Operation.GlobalGet _) = 0x23
+opcode_by (Operation.GlobalSet _) = 0x24
+opcode_by (Operation.Load t access _ _) = load_opcode t access
+opcode_by (Operation.Store t log_width _ _) = store_opcode t log_width
+opcode_by Operation.MemorySize = 0x3F
+opcode_by Operation.MemoryGrow = 0x40
+opcode_by (Operation.Const32 _) = 0x41
+opcode_by (Operation.Const64 _) = 0x42
+opcode_by (Operation.Eqz I32) = 0x45
+opcode_by (Operation.Eqz I64) = 0x50
+opcode_by (Operation.Compare I32 operator) = 0x46 + comparison_place operator
+opcode_by (Operation.Compare I64 operator) = 0x51 + comparison_place operator
+opcode_by (Operation.Unary I32 operator) = 0x67 + unary_place operator
+opcode_by (Operation.Unary I64 operator) = 0x79 + unary_place operator
+opcode_by (Operation.Binary I32 operator) = 0x6A + binary_place operator
+opcode_by (Operation.Binary I64 operator) = 0x7C + binary_place operator
+opcode_by (Operation.Convert convert.Wrap) = 0xA7
+opcode_by (Operation.Convert convert.ExtendS) = 0xAC
+opcode_by (Operation.Convert convert.ExtendU) = 0xAD
+
+-- the first byte of a layer, of which `A` stands for the nested instructions
 abbrev pub opcode_in : {A : Type 0} → WInstr-F A → ℕ
-opcode_in WInstr-F.Unreachable = 0x00
-opcode_in WInstr-F.Nop = 0x01
-opcode_in (WInstr-F.Block _ _) = 0x02
-opcode_in (WInstr-F.Loop _ _) = 0x03
-opcode_in (WInstr-F.If _ _) = 0x04
-opcode_in (WInstr-F.IfElse _ _ _) = 0x04
-opcode_in (WInstr-F.Br _) = 0x0C
-opcode_in (WInstr-F.BrIf _) = 0x0D
-opcode_in (WInstr-F.BrTable _ _) = 0x0E
-opcode_in WInstr-F.Return = 0x0F
-opcode_in (WInstr-F.Call _) = 0x10
-opcode_in (WInstr-F.CallIndirect _) = 0x11
-opcode_in WInstr-F.Drop = 0x1A
-opcode_in WInstr-F.Select = 0x1B
-opcode_in (WInstr-F.LocalGet _) = 0x20
-opcode_in (WInstr-F.LocalSet _) = 0x21
-opcode_in (WInstr-F.LocalTee _) = 0x22
-opcode_in (WInstr-F.GlobalGet _) = 0x23
-opcode_in (WInstr-F.GlobalSet _) = 0x24
-opcode_in (WInstr-F.I32Load _ _) = 0x28
-opcode_in (WInstr-F.I64Load _ _) = 0x29
-opcode_in (WInstr-F.I32Load8S _ _) = 0x2C
-opcode_in (WInstr-F.I32Load8U _ _) = 0x2D
-opcode_in (WInstr-F.I32Load16S _ _) = 0x2E
-opcode_in (WInstr-F.I32Load16U _ _) = 0x2F
-opcode_in (WInstr-F.I64Load8S _ _) = 0x30
-opcode_in (WInstr-F.I64Load8U _ _) = 0x31
-opcode_in (WInstr-F.I64Load16S _ _) = 0x32
-opcode_in (WInstr-F.I64Load16U _ _) = 0x33
-opcode_in (WInstr-F.I64Load32S _ _) = 0x34
-opcode_in (WInstr-F.I64Load32U _ _) = 0x35
-opcode_in (WInstr-F.I32Store _ _) = 0x36
-opcode_in (WInstr-F.I64Store _ _) = 0x37
-opcode_in (WInstr-F.I32Store8 _ _) = 0x3A
-opcode_in (WInstr-F.I32Store16 _ _) = 0x3B
-opcode_in (WInstr-F.I64Store8 _ _) = 0x3C
-opcode_in (WInstr-F.I64Store16 _ _) = 0x3D
-opcode_in (WInstr-F.I64Store32 _ _) = 0x3E
-opcode_in WInstr-F.MemorySize = 0x3F
-opcode_in WInstr-F.MemoryGrow = 0x40
-opcode_in (WInstr-F.I32Const _) = 0x41
-opcode_in (WInstr-F.I64Const _) = 0x42
-opcode_in WInstr-F.I32Eqz = 0x45
-opcode_in WInstr-F.I32Eq = 0x46
-opcode_in WInstr-F.I32Ne = 0x47
-opcode_in WInstr-F.I32LtS = 0x48
-opcode_in WInstr-F.I32LtU = 0x49
-opcode_in WInstr-F.I32GtS = 0x4A
-opcode_in WInstr-F.I32GtU = 0x4B
-opcode_in WInstr-F.I32LeS = 0x4C
-opcode_in WInstr-F.I32LeU = 0x4D
-opcode_in WInstr-F.I32GeS = 0x4E
-opcode_in WInstr-F.I32GeU = 0x4F
-opcode_in WInstr-F.I64Eqz = 0x50
-opcode_in WInstr-F.I64Eq = 0x51
-opcode_in WInstr-F.I64Ne = 0x52
-opcode_in WInstr-F.I64LtS = 0x53
-opcode_in WInstr-F.I64LtU = 0x54
-opcode_in WInstr-F.I64GtS = 0x55
-opcode_in WInstr-F.I64GtU = 0x56
-opcode_in WInstr-F.I64LeS = 0x57
-opcode_in WInstr-F.I64LeU = 0x58
-opcode_in WInstr-F.I64GeS = 0x59
-opcode_in WInstr-F.I64GeU = 0x5A
-opcode_in WInstr-F.I32Clz = 0x67
-opcode_in WInstr-F.I32Ctz = 0x68
-opcode_in WInstr-F.I32Popcnt = 0x69
-opcode_in WInstr-F.I32Add = 0x6A
-opcode_in WInstr-F.I32Sub = 0x6B
-opcode_in WInstr-F.I32Mul = 0x6C
-opcode_in WInstr-F.I32DivS = 0x6D
-opcode_in WInstr-F.I32DivU = 0x6E
-opcode_in WInstr-F.I32RemS = 0x6F
-opcode_in WInstr-F.I32RemU = 0x70
-opcode_in WInstr-F.I32And = 0x71
-opcode_in WInstr-F.I32Or = 0x72
-opcode_in WInstr-F.I32Xor = 0x73
-opcode_in WInstr-F.I32Shl = 0x74
-opcode_in WInstr-F.I32ShrS = 0x75
-opcode_in WInstr-F.I32ShrU = 0x76
-opcode_in WInstr-F.I32Rotl = 0x77
-opcode_in WInstr-F.I32Rotr = 0x78
-opcode_in WInstr-F.I64Clz = 0x79
-opcode_in WInstr-F.I64Ctz = 0x7A
-opcode_in WInstr-F.I64Popcnt = 0x7B
-opcode_in WInstr-F.I64Add = 0x7C
-opcode_in WInstr-F.I64Sub = 0x7D
-opcode_in WInstr-F.I64Mul = 0x7E
-opcode_in WInstr-F.I64DivS = 0x7F
-opcode_in WInstr-F.I64DivU = 0x80
-opcode_in WInstr-F.I64RemS = 0x81
-opcode_in WInstr-F.I64RemU = 0x82
-opcode_in WInstr-F.I64And = 0x83
-opcode_in WInstr-F.I64Or = 0x84
-opcode_in WInstr-F.I64Xor = 0x85
-opcode_in WInstr-F.I64Shl = 0x86
-opcode_in WInstr-F.I64ShrS = 0x87
-opcode_in WInstr-F.I64ShrU = 0x88
-opcode_in WInstr-F.I64Rotl = 0x89
-opcode_in WInstr-F.I64Rotr = 0x8A
-opcode_in WInstr-F.I32WrapI64 = 0xA7
-opcode_in WInstr-F.I64ExtendI32S = 0xAC
-opcode_in WInstr-F.I64ExtendI32U = 0xAD
+opcode_in x = opcode_by (operation_in x)
 
 -- the first byte of an instruction
 abbrev pub opcode_of : WInstr → ℕ

@@ -1,6 +1,6 @@
 -- What each instruction does, by kind, in the order of the opcodes (WebAssembly Core Specification 1.0, section 2.4):
 -- the one table over all instructions, over which the others are tables of kinds. `A` stands for the nested instructions.
-use Rattle.std.specs.Prelude.{ℕ, List, Option, true, false}
+use Rattle.std.specs.Prelude.{ℕ, ◌≤◌, List, Option, true, false}
 use Rattle.wasm_operators.specs.declared.UnOp.{UnOp}
 use Rattle.wasm_operators.specs.declared.UnOp.TheVariants as unary
 use Rattle.wasm_operators.specs.declared.BinOp.{BinOp}
@@ -166,3 +166,14 @@ operation_in WInstr-F.I64ExtendI32U = Convert convert.ExtendU
 -- what an instruction does, with the instructions nested in it
 abbrev pub operation_of : WInstr → Operation WInstr
 operation_of w = operation_in (out-WInstr w)
+
+-- how many bytes a value has, as a power of two
+abbrev pub log_bytes : ValTy → ℕ
+log_bytes I32 = 2
+log_bytes I64 = 3
+
+-- a load or store moves no more bytes than a value of its type has
+abbrev pub FitsItsType : {A : Type 0} → Operation A → Type 0
+FitsItsType (Load t access _ _) = access.log_width ≤ log_bytes t
+FitsItsType (Store t log_width _ _) = log_width ≤ log_bytes t
+FitsItsType _ = Unit {0}

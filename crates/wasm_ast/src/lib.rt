@@ -1,4 +1,6 @@
-//! Trees of WebAssembly 1.0 modules, integer profile, and the opcode and immediates of each instruction.
+//! Trees of WebAssembly 1.0 modules, integer profile: what each instruction does, by kind, its opcode and its immediates.
+//! The table over all instructions is `operation_in`, and the others are by kind; a table by opcode leads back.
+//! Laws: `opcodes_tell_apart`, `worked_opcodes`.
 #![tactic(auto)]
 
 mod by_opcode;
@@ -14,12 +16,9 @@ pub use bounded_list::List;
 pub use by_opcode::{bare_instruction, index_instruction, memory_instruction, zero_instruction};
 pub use immediate::ImmediateRef;
 pub use instructions::WInstr;
-pub use laws::opcodes_tell_apart;
+pub use laws::{opcodes_tell_apart, worked_opcodes};
 pub use modules::{
     Code, DataSeg, ElemSeg, Export, ExportKind, Import, ImportKind, LocalRun, WGlobal, WModule,
 };
 pub use operation::{Access, OperationRef};
 pub use types::{FuncType, Limits, ValTy};
-
-#[cfg(test)]
-mod tests;

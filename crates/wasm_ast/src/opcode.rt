@@ -1,116 +1,103 @@
-ghost use Rattle.std.specs.Prelude.{◌≡◌};
-ghost use Rattle.wasm_ast.specs.Opcodes.{opcode_of};
+ghost use Rattle.std.specs.Prelude.{◌≡◌, ◌<◌, ◌≤◌};
+ghost use Rattle.wasm_ast.specs.Opcodes.{opcode_of, comparison_place, unary_place, binary_place, load_opcode, store_opcode};
 
 use crate::instructions::WInstr;
+use crate::operation::{Access, OperationRef};
+use crate::types::ValTy::{self, I32, I64};
+use wasm_operators::{BinOp, CmpOp, CvtOp, UnOp};
 
 impl WInstr {
     /// The first byte of the instruction (WebAssembly Core Specification 1.0, section 5.4).
     pub fn opcode(&self) -> u8
         ensures { result ≡ opcode_of self.now }
     {
-        match self {
-            WInstr::Unreachable => 0x00,
-            WInstr::Nop => 0x01,
-            WInstr::Block(..) => 0x02,
-            WInstr::Loop(..) => 0x03,
-            WInstr::If(..) | WInstr::IfElse(..) => 0x04,
-            WInstr::Br(..) => 0x0C,
-            WInstr::BrIf(..) => 0x0D,
-            WInstr::BrTable(..) => 0x0E,
-            WInstr::Return => 0x0F,
-            WInstr::Call(..) => 0x10,
-            WInstr::CallIndirect(..) => 0x11,
-            WInstr::Drop => 0x1A,
-            WInstr::Select => 0x1B,
-            WInstr::LocalGet(..) => 0x20,
-            WInstr::LocalSet(..) => 0x21,
-            WInstr::LocalTee(..) => 0x22,
-            WInstr::GlobalGet(..) => 0x23,
-            WInstr::GlobalSet(..) => 0x24,
-            WInstr::I32Load(..) => 0x28,
-            WInstr::I64Load(..) => 0x29,
-            WInstr::I32Load8S(..) => 0x2C,
-            WInstr::I32Load8U(..) => 0x2D,
-            WInstr::I32Load16S(..) => 0x2E,
-            WInstr::I32Load16U(..) => 0x2F,
-            WInstr::I64Load8S(..) => 0x30,
-            WInstr::I64Load8U(..) => 0x31,
-            WInstr::I64Load16S(..) => 0x32,
-            WInstr::I64Load16U(..) => 0x33,
-            WInstr::I64Load32S(..) => 0x34,
-            WInstr::I64Load32U(..) => 0x35,
-            WInstr::I32Store(..) => 0x36,
-            WInstr::I64Store(..) => 0x37,
-            WInstr::I32Store8(..) => 0x3A,
-            WInstr::I32Store16(..) => 0x3B,
-            WInstr::I64Store8(..) => 0x3C,
-            WInstr::I64Store16(..) => 0x3D,
-            WInstr::I64Store32(..) => 0x3E,
-            WInstr::MemorySize => 0x3F,
-            WInstr::MemoryGrow => 0x40,
-            WInstr::I32Const(..) => 0x41,
-            WInstr::I64Const(..) => 0x42,
-            WInstr::I32Eqz => 0x45,
-            WInstr::I32Eq => 0x46,
-            WInstr::I32Ne => 0x47,
-            WInstr::I32LtS => 0x48,
-            WInstr::I32LtU => 0x49,
-            WInstr::I32GtS => 0x4A,
-            WInstr::I32GtU => 0x4B,
-            WInstr::I32LeS => 0x4C,
-            WInstr::I32LeU => 0x4D,
-            WInstr::I32GeS => 0x4E,
-            WInstr::I32GeU => 0x4F,
-            WInstr::I64Eqz => 0x50,
-            WInstr::I64Eq => 0x51,
-            WInstr::I64Ne => 0x52,
-            WInstr::I64LtS => 0x53,
-            WInstr::I64LtU => 0x54,
-            WInstr::I64GtS => 0x55,
-            WInstr::I64GtU => 0x56,
-            WInstr::I64LeS => 0x57,
-            WInstr::I64LeU => 0x58,
-            WInstr::I64GeS => 0x59,
-            WInstr::I64GeU => 0x5A,
-            WInstr::I32Clz => 0x67,
-            WInstr::I32Ctz => 0x68,
-            WInstr::I32Popcnt => 0x69,
-            WInstr::I32Add => 0x6A,
-            WInstr::I32Sub => 0x6B,
-            WInstr::I32Mul => 0x6C,
-            WInstr::I32DivS => 0x6D,
-            WInstr::I32DivU => 0x6E,
-            WInstr::I32RemS => 0x6F,
-            WInstr::I32RemU => 0x70,
-            WInstr::I32And => 0x71,
-            WInstr::I32Or => 0x72,
-            WInstr::I32Xor => 0x73,
-            WInstr::I32Shl => 0x74,
-            WInstr::I32ShrS => 0x75,
-            WInstr::I32ShrU => 0x76,
-            WInstr::I32Rotl => 0x77,
-            WInstr::I32Rotr => 0x78,
-            WInstr::I64Clz => 0x79,
-            WInstr::I64Ctz => 0x7A,
-            WInstr::I64Popcnt => 0x7B,
-            WInstr::I64Add => 0x7C,
-            WInstr::I64Sub => 0x7D,
-            WInstr::I64Mul => 0x7E,
-            WInstr::I64DivS => 0x7F,
-            WInstr::I64DivU => 0x80,
-            WInstr::I64RemS => 0x81,
-            WInstr::I64RemU => 0x82,
-            WInstr::I64And => 0x83,
-            WInstr::I64Or => 0x84,
-            WInstr::I64Xor => 0x85,
-            WInstr::I64Shl => 0x86,
-            WInstr::I64ShrS => 0x87,
-            WInstr::I64ShrU => 0x88,
-            WInstr::I64Rotl => 0x89,
-            WInstr::I64Rotr => 0x8A,
-            WInstr::I32WrapI64 => 0xA7,
-            WInstr::I64ExtendI32S => 0xAC,
-            WInstr::I64ExtendI32U => 0xAD,
+        match self.operation() {
+            OperationRef::Unreachable => 0x00,
+            OperationRef::Nop => 0x01,
+            OperationRef::Block(..) => 0x02,
+            OperationRef::Loop(..) => 0x03,
+            OperationRef::If(..) | OperationRef::IfElse(..) => 0x04,
+            OperationRef::Br(_) => 0x0C,
+            OperationRef::BrIf(_) => 0x0D,
+            OperationRef::BrTable(..) => 0x0E,
+            OperationRef::Return => 0x0F,
+            OperationRef::Call(_) => 0x10,
+            OperationRef::CallIndirect(_) => 0x11,
+            OperationRef::Drop => 0x1A,
+            OperationRef::Select => 0x1B,
+            OperationRef::LocalGet(_) => 0x20,
+            OperationRef::LocalSet(_) => 0x21,
+            OperationRef::LocalTee(_) => 0x22,
+            OperationRef::GlobalGet(_) => 0x23,
+            OperationRef::GlobalSet(_) => 0x24,
+            OperationRef::Load(ty, access, ..) => load_opcode(ty, access),
+            OperationRef::Store(ty, log_width, ..) => store_opcode(ty, log_width),
+            OperationRef::MemorySize => 0x3F,
+            OperationRef::MemoryGrow => 0x40,
+            OperationRef::Const32(_) => 0x41,
+            OperationRef::Const64(_) => 0x42,
+            OperationRef::Eqz(I32) => 0x45,
+            OperationRef::Eqz(I64) => 0x50,
+            OperationRef::Compare(I32, operator) => 0x46 + comparison_place(operator),
+            OperationRef::Compare(I64, operator) => 0x51 + comparison_place(operator),
+            OperationRef::Unary(I32, operator) => 0x67 + unary_place(operator),
+            OperationRef::Unary(I64, operator) => 0x79 + unary_place(operator),
+            OperationRef::Binary(I32, operator) => 0x6A + binary_place(operator),
+            OperationRef::Binary(I64, operator) => 0x7C + binary_place(operator),
+            OperationRef::Convert(CvtOp::Wrap) => 0xA7,
+            OperationRef::Convert(CvtOp::ExtendS) => 0xAC,
+            OperationRef::Convert(CvtOp::ExtendU) => 0xAD,
         }
+    }
+}
+
+/// The place of a comparison behind `eq`.
+fn comparison_place(operator: CmpOp) -> u8
+    ensures place { result ≡ comparison_place operator }
+    ensures small { result < 16 }
+{
+    operator as u8
+}
+
+/// The place of an operator of one integer behind `clz`.
+fn unary_place(operator: UnOp) -> u8
+    ensures place { result ≡ unary_place operator }
+    ensures small { result < 16 }
+{
+    operator as u8
+}
+
+/// The place of an operator of two integers behind `add`.
+fn binary_place(operator: BinOp) -> u8
+    ensures place { result ≡ binary_place operator }
+    ensures small { result < 16 }
+{
+    operator as u8
+}
+
+/// The opcode of a load: of a whole value, or of a part.
+fn load_opcode(ty: ValTy, access: Access) -> u8
+    requires { access.log_width ≤ 3 }
+    ensures { result ≡ load_opcode ty access }
+{
+    let place = 2 * access.log_width as u8 + !access.signed as u8;
+    match (ty, access.log_width) {
+        (I32, 2) => 0x28,
+        (I64, 3) => 0x29,
+        (I32, _) => 0x2C + place,
+        (I64, _) => 0x30 + place,
+    }
+}
+
+/// The opcode of a store: of a whole value, or of a part.
+fn store_opcode(ty: ValTy, log_width: u32) -> u8
+    requires { log_width ≤ 3 }
+    ensures { result ≡ store_opcode ty log_width }
+{
+    match (ty, log_width) {
+        (I32, 2) => 0x36,
+        (I64, 3) => 0x37,
+        (I32, _) => 0x3A + log_width as u8,
+        (I64, _) => 0x3C + log_width as u8,
     }
 }

@@ -1,5 +1,5 @@
 ghost use Rattle.std.specs.Prelude.{◌≡◌};
-ghost use Rattle.wasm_ast.specs.Operations.{operation_of, with_sign, without_sign};
+ghost use Rattle.wasm_ast.specs.Operations.{FitsItsType, operation_of, with_sign, without_sign};
 ghost use Rattle.wasm_ast.specs.Immediates.{HasShortLists, immediate_by};
 ghost use Rattle.wasm_ast.specs.OperationViews.{operation_seen};
 
@@ -84,6 +84,7 @@ impl WInstr {
     pub fn operation(&self) -> OperationRef<'_>
         ensures operation { operation_seen result ≡ operation_of self.now }
         ensures short { HasShortLists (immediate_by (operation_seen result)) }
+        ensures narrow { FitsItsType (operation_seen result) }
     {
         match self {
             WInstr::Unreachable => OperationRef::Unreachable,

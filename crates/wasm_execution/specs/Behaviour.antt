@@ -6,7 +6,7 @@ use Rattle.machine_steps.specs.Agreement.{Seen, seen}
 use Rattle.wasm_execution.specs.Configurations.{prints}
 use Rattle.wasm_execution.specs.Environments.{environment_of}
 use Rattle.wasm_execution.specs.Steps.{step}
-use Rattle.wasm_execution.specs.Starts.{Start, UnknownImport, SegmentOut, NoMain, NoStartFunction, Begins, start_of}
+use Rattle.wasm_execution.specs.Starts.{Start, Begins, start_of}
 
 -- after so many steps of a module that starts so; one that does not start is stuck
 abbrev pub seen_from : WModule → ℕ → Start → Seen

@@ -1,12 +1,12 @@
 -- What calls do (WebAssembly Core Specification 1.0, sections 4.4.5.9 to 4.4.5.11 and 4.4.7).
-use Rattle.std.specs.Prelude.{ℕ, ◌+◌, true, false, if◌then◌else◌, List, [], ◌∷◌, ◌++◌, Option, Some, None, length, reverse, replicate, slice_get}
+use Rattle.std.specs.Prelude.{ℕ, ◌+◌, true, false, if◌then◌else◌, List, [], ◌∷◌, ◌++◌, Some, None, length, reverse, replicate, slice_get}
 use Rattle.std.specs.Int.{cast_signed, w64}
 use Rattle.wasm_ast.specs.declared.modules.Code.{Code}
 use Rattle.wasm_ast.specs.declared.modules.LocalRun.{LocalRun}
 use Rattle.machine_steps.specs.declared.End.TheVariants.{Value}
 use Rattle.machine_steps.specs.declared.Trap.TheVariants.{TableBounds, Uninitialised, Signature}
 use Rattle.machine_steps.specs.Steps.{Turn, Went, Ended, NoStep, with_top}
-use Rattle.wasm_execution.specs.Types.{results_of, is_same}
+use Rattle.wasm_execution.specs.Types.{results_of, is_same_type}
 use Rattle.wasm_execution.specs.Configurations.{Here, Bottom, TheEnd, ThenCall, Store, Config, Event, Print, Called, Returned}
 use Rattle.wasm_execution.specs.Environments.{Environment, Function, function_at, is_allocator}
 use Rattle.wasm_execution.specs.Turns.{with_found, with_one, with_all, first_or_zero, traps}
@@ -60,7 +60,7 @@ module _ (e : Environment) where
 
   -- the call of a function where it has this type (4.4.5.11)
   abbrev pub call_typed : ℕ → ℕ → Here → Config → Turn Event Config
-  call_typed type_index n here c = with_found (function_at e n) (λ f. with_found (slice_get e.types type_index) (λ ty. elim (is_same f.ty ty) [
+  call_typed type_index n here c = with_found (function_at e n) (λ f. with_found (slice_get e.types type_index) (λ ty. elim (is_same_type f.ty ty) [
     | true ↦ call n f here c
     | false ↦ traps Signature c
   ]))

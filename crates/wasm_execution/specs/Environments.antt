@@ -1,9 +1,8 @@
 -- What the steps of a module look up in it (WebAssembly Core Specification 1.0, section 4.2).
-use Rattle.std.specs.Prelude.{ℕ, zero, min, Bool, true, false, ◌&&◌, nat_le, List, [], ◌∷◌, ◌++◌, Option, Some, None, codes, slice_get, if◌then◌else◌}
+use Rattle.std.specs.Prelude.{ℕ, min, Bool, true, false, ◌&&◌, nat_le, List, [], ◌∷◌, ◌++◌, Option, Some, None, codes, slice_get, if◌then◌else◌}
 use Rattle.std.specs.Str.{bytes_eq}
 use Rattle.wasm_ast.specs.declared.types.FuncType.{FuncType}
 use Rattle.wasm_ast.specs.declared.types.Limits.{Limits}
-use Rattle.wasm_ast.specs.declared.types.ValTy.{ValTy}
 use Rattle.wasm_ast.specs.declared.types.ValTy.TheVariants.{I32, I64}
 use Rattle.wasm_ast.specs.declared.modules.Code.{Code}
 use Rattle.wasm_ast.specs.declared.modules.Export.{Export}
@@ -14,7 +13,7 @@ use Rattle.wasm_ast.specs.declared.modules.ImportKind.{ImportKind}
 use Rattle.wasm_ast.specs.declared.modules.ImportKind.TheVariants as import_kind
 use Rattle.wasm_ast.specs.declared.modules.WGlobal.{WGlobal}
 use Rattle.wasm_ast.specs.declared.modules.WModule.{WModule}
-use Rattle.wasm_execution.specs.Types.{is_same, takes_and_gives}
+use Rattle.wasm_execution.specs.Types.{is_same_type, takes_and_gives}
 
 -- a function: its type, and its code where the host does not give it (4.2.6)
 pub record Function : Type 0 where
@@ -88,7 +87,7 @@ most_pages_of (l ∷ ls) = elim l.max [ None ↦ 1024 | Some n ↦ min n 1024 ]
 
 -- whether the function of this number has this type
 abbrev pub has_type : List (Option Function) → FuncType → ℕ → Bool
-has_type fs ty n = elim (function_in fs n) [ None ↦ false | Some f ↦ is_same f.ty ty ]
+has_type fs ty n = elim (function_in fs n) [ None ↦ false | Some f ↦ is_same_type f.ty ty ]
 
 -- whether functions 1 to 3 take a size and give an address, take an address, and take a size and give an address (this
 -- project's own)

@@ -8,6 +8,12 @@ pub mod Memories
 pub mod Calls
 pub mod Control
 pub mod Steps
+pub mod Imports
 pub mod Starts
 pub mod Behaviour
 pub mod Rows
+pub mod ControlRows
+pub mod CallRows
+pub mod MemoryRows
+pub mod StartRows
+pub mod EventRows

@@ -38,13 +38,13 @@ module _ (e : Environment) where
   ]
 
   -- t.load and t.loadN_sx (4.4.4.1)
-  abbrev pub load : ValTy → Access → ℕ → Here → Config → Turn Event Config
-  load t access offset here c = with_one here.operands (λ base beneath. access_at (base + offset) (2 ^ access.log_width) here c
+  abbrev pub load_number : ValTy → Access → ℕ → Here → Config → Turn Event Config
+  load_number t access offset here c = with_one here.operands (λ base beneath. access_at (base + offset) (2 ^ access.log_width) here c
       (record c { here = record here { operands = loaded t access (read (2 ^ access.log_width) c.store.memory (base + offset)) ∷ beneath } }))
 
   -- t.store and t.storeN (4.4.4.2)
-  abbrev pub store : ℕ → ℕ → Here → Config → Turn Event Config
-  store log_width offset here c = with_two here.operands (λ base n beneath. access_at (base + offset) (2 ^ log_width) here c (record c {
+  abbrev pub store_number : ℕ → ℕ → Here → Config → Turn Event Config
+  store_number log_width offset here c = with_two here.operands (λ base n beneath. access_at (base + offset) (2 ^ log_width) here c (record c {
     here = record here { operands = beneath };
     store = record c.store { memory = write (2 ^ log_width) c.store.memory (base + offset) n };
   }))
@@ -57,8 +57,8 @@ module _ (e : Environment) where
   abbrev pub grow_memory : Here → Config → Turn Event Config
   grow_memory here c = with_one here.operands (λ n beneath. elim (nat_le (pages_of c.store.memory + n) e.most_pages) [
     | true ↦ Went [] (record c {
-        here = record here { operands = pages_of c.store.memory ∷ beneath };
-        store = record c.store { memory = c.store.memory ++ zeros (65536 * n) };
-      })
+      here = record here { operands = pages_of c.store.memory ∷ beneath };
+      store = record c.store { memory = c.store.memory ++ zeros (65536 * n) };
+    })
     | false ↦ leaves ((2 ^ 32 - 1) ∷ beneath) here c
   ])

@@ -1,5 +1,5 @@
 -- What number instructions do (WebAssembly Core Specification 1.0, section 4.4.1).
-use Rattle.std.specs.Prelude.{ℕ, ◌==◌, List, ◌∷◌, Result, Ok, Err}
+use Rattle.std.specs.Prelude.{ℕ, ◌==◌, ◌∷◌, Ok, Err}
 use Rattle.wasm_operators.specs.declared.UnOp.{UnOp}
 use Rattle.wasm_operators.specs.declared.BinOp.{BinOp}
 use Rattle.wasm_operators.specs.declared.CmpOp.{CmpOp}

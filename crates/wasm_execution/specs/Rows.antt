@@ -9,7 +9,7 @@ use Rattle.wasm_ast.specs.declared.modules.WModule.{WModule}
 use Rattle.machine_steps.specs.declared.End.{End}
 use Rattle.machine_steps.specs.declared.End.TheVariants.{Value, Trap}
 use Rattle.machine_steps.specs.declared.Trap.TheVariants.{Exhausted}
-use Rattle.machine_steps.specs.Steps.{Going, Over}
+use Rattle.machine_steps.specs.Steps.{Going, Over, Stuck}
 use Rattle.wasm_execution.specs.Behaviour.{wasm}
 
 -- global 0 is `trap_code`, at first this number; global 1 takes the result of function 1, which has this body and three
@@ -59,6 +59,10 @@ IsGoing m n printed = wasm m n ≡ record { printed = printed; stand = Going }
 -- the run is over after so many steps, with this end
 abbrev pub IsOver : WModule → ℕ → List ℕ → End → Type 0
 IsOver m n printed e = wasm m n ≡ record { printed = printed; stand = Over e }
+
+-- the run has no step after so many, and nothing was printed
+abbrev pub IsStuck : WModule → ℕ → Type 0
+IsStuck m n = wasm m n ≡ record { printed = []; stand = Stuck }
 
 -- a module that takes so many steps, and no fewer
 pub record Takes (m : WModule) (n : ℕ) (printed : List ℕ) (e : End) : Type 0 where

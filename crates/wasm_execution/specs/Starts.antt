@@ -1,7 +1,6 @@
 -- How a module begins to run: its instantiation, and the invocation of its start function and of its exported `main` (WebAssembly
 -- Core Specification 1.0, sections 4.5.4 and 4.5.5).
-use Rattle.std.specs.Prelude.{ℕ, zero, suc, ◌+◌, ◌*◌, Bool, true, false, ◌&&◌, nat_le, List, [], ◌∷◌, ◌++◌, Option, Some, None, length, map, take, drop, replicate, codes, slice_get}
-use Rattle.std.specs.Str.{bytes_eq}
+use Rattle.std.specs.Prelude.{ℕ, suc, ◌+◌, ◌*◌, Bool, true, false, nat_le, List, [], ◌∷◌, ◌++◌, Option, Some, None, length, map, take, drop, replicate, codes, slice_get}
 use Rattle.memory_words.specs.Memories.{zeros, put}
 use Rattle.wasm_ast.specs.declared.instructions.WInstr.{WInstr, out-WInstr}
 use Rattle.wasm_ast.specs.declared.instructions.WInstr.TheOpen.{WInstr-F}
@@ -11,14 +10,12 @@ use Rattle.wasm_ast.specs.declared.types.ValTy.TheVariants.{I64}
 use Rattle.wasm_ast.specs.declared.modules.Code.{Code}
 use Rattle.wasm_ast.specs.declared.modules.DataSeg.{DataSeg}
 use Rattle.wasm_ast.specs.declared.modules.ElemSeg.{ElemSeg}
-use Rattle.wasm_ast.specs.declared.modules.Import.{Import}
-use Rattle.wasm_ast.specs.declared.modules.ImportKind.{ImportKind}
-use Rattle.wasm_ast.specs.declared.modules.ImportKind.TheVariants as import_kind
 use Rattle.wasm_ast.specs.declared.modules.WGlobal.{WGlobal}
 use Rattle.wasm_ast.specs.declared.modules.WModule.{WModule}
-use Rattle.wasm_execution.specs.Types.{takes_and_gives, is_same}
-use Rattle.wasm_execution.specs.Configurations.{Bottom, TheEnd, ThenCall, Store, Config}
+use Rattle.wasm_execution.specs.Types.{takes_and_gives, is_same_type}
+use Rattle.wasm_execution.specs.Configurations.{TheEnd, ThenCall, Store, Config}
 use Rattle.wasm_execution.specs.Environments.{Environment, environment_of, function_at, exported, is_func}
+use Rattle.wasm_execution.specs.Imports.{is_print}
 use Rattle.wasm_execution.specs.Calls.{entered}
 
 -- how a module starts: the first import that the host does not give; the first segment out of bounds, element segments counted
@@ -35,15 +32,6 @@ abbrev pub first_failing : ℕ → List Bool → Option ℕ
 first_failing n [] = None
 first_failing n (true ∷ rest) = first_failing (suc n) rest
 first_failing n (false ∷ rest) = Some n
-
--- whether a thing is a function that takes an i64 and gives nothing
-abbrev pub prints_i64 : List FuncType → ImportKind → Bool
-prints_i64 types (import_kind.Func n) = elim (slice_get types n) [ None ↦ false | Some t ↦ is_same t (takes_and_gives (I64 ∷ []) None) ]
-prints_i64 types _ = false
-
--- whether an import is the one that the host gives (this project's own)
-abbrev pub is_print : List FuncType → Import → Bool
-is_print types i = bytes_eq i.«module» (codes "rw") && (bytes_eq i.name (codes "print") && prints_i64 types i.what)
 
 -- the value of a constant expression over these globals (4.4.8)
 abbrev pub value_in : List ℕ → WInstr-F WInstr → ℕ
@@ -104,26 +92,26 @@ first_store m =
 
 -- the code of a function that has this type
 abbrev pub code_of_type : Environment → FuncType → ℕ → Option Code
-code_of_type e ty n = elim (function_at e n) [ None ↦ None | Some f ↦ elim (is_same f.ty ty) [ true ↦ f.code | false ↦ None ] ]
+code_of_type e ty n = elim (function_at e n) [ None ↦ None | Some f ↦ elim (is_same_type f.ty ty) [ true ↦ f.code | false ↦ None ] ]
 
--- a function that takes nothing is called, and then what follows
-abbrev pub begins : WModule → ℕ → Option Code → Bottom → Start → Start
-begins m n None bottom otherwise = otherwise
-begins m n (Some code) bottom otherwise = Begins (entered n code [] [] bottom (first_store m))
-
--- the start function is called first, where there is one, and then `main`
-abbrev pub start_main : WModule → ℕ → Option Code → Start
-start_main m main None = NoMain
-start_main m main (Some code) = elim m.start [
+-- `main`, with this code, is called, after the start function, where there is one
+abbrev pub start_main : WModule → ℕ → Code → Start
+start_main m main code = elim m.start [
   | None ↦ Begins (entered main code [] [] TheEnd (first_store m))
-  | Some n ↦ begins m n (code_of_type (environment_of m) (takes_and_gives [] None) n) (ThenCall main) NoStartFunction
+  | Some n ↦ elim (code_of_type (environment_of m) (takes_and_gives [] None) n) [
+    | None ↦ NoStartFunction
+    | Some first ↦ Begins (entered n first [] [] (ThenCall main) (first_store m))
+  ]
 ]
 
--- the function that is exported as `main`
+-- the function that is exported as `main` takes nothing and gives an i64
 abbrev pub start_exported : WModule → Start
 start_exported m = elim (exported is_func (codes "main") m.exports) [
   | None ↦ NoMain
-  | Some main ↦ start_main m main (code_of_type (environment_of m) (takes_and_gives [] (Some I64)) main)
+  | Some main ↦ elim (code_of_type (environment_of m) (takes_and_gives [] (Some I64)) main) [
+    | None ↦ NoMain
+    | Some code ↦ start_main m main code
+  ]
 ]
 
 -- how a module starts, in the order in which it is looked at

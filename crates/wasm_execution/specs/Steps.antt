@@ -10,7 +10,7 @@ use Rattle.wasm_execution.specs.Environments.{Environment}
 use Rattle.wasm_execution.specs.Turns.{goes_on}
 use Rattle.wasm_execution.specs.Numbers.{constant, apply_unary, apply_binary, test_zero, apply_compare, apply_convert}
 use Rattle.wasm_execution.specs.Variables.{drop_one, select_one, get_local, set_local, tee_local, get_global, set_global}
-use Rattle.wasm_execution.specs.Memories.{load, store, size_of_memory, grow_memory}
+use Rattle.wasm_execution.specs.Memories.{load_number, store_number, size_of_memory, grow_memory}
 use Rattle.wasm_execution.specs.Calls.{call_direct, call_indirect, return_now}
 use Rattle.wasm_execution.specs.Control.{stop, enter_block, enter_loop, enter_if, enter_either, branch_to, branch_if, branch_table, leave}
 
@@ -36,8 +36,8 @@ module _ (e : Environment) where
   act (operation.LocalTee n) here c = tee_local n here c
   act (operation.GlobalGet n) here c = get_global n here c
   act (operation.GlobalSet n) here c = set_global n here c
-  act (operation.Load t access align offset) here c = load e t access offset here c
-  act (operation.Store t log_width align offset) here c = store e log_width offset here c
+  act (operation.Load t access align offset) here c = load_number e t access offset here c
+  act (operation.Store t log_width align offset) here c = store_number e log_width offset here c
   act operation.MemorySize here c = size_of_memory e here c
   act operation.MemoryGrow here c = grow_memory e here c
   act (operation.Const32 bits) here c = constant bits here c
