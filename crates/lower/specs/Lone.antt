@@ -10,7 +10,7 @@ use Rattle.rw_program.specs.LonePrograms.{lone_func, lone_program}
 use Rattle.lowering_table.specs.Allocators.{unreachable_code}
 use Rattle.lowering_table.specs.Frames.{room_of}
 use Rattle.lowering_table.specs.Rows.{rows, gives}
-use Rattle.lowering_table.specs.Modules.{code_of, low_function, main_code}
+use Rattle.lowering_table.specs.Codes.{code_of, low_function, main_code}
 use Rattle.lowering_table.specs.declared.Pages.{Pages}
 use Rattle.lower.specs.Heights.{AreWithin}
 use Rattle.lower.specs.Parts.{lone_types, lone_imports, lone_memories, lone_globals, lone_exports, lone_elements, lone_segments}

@@ -10,7 +10,8 @@ ghost use Rattle.wasm_execution.specs.Behaviour.{wasm};
 ghost use Rattle.rw_types.specs.LoneMain.{ArePlain};
 ghost use Rattle.rw_program.specs.LonePrograms.{IsLoneProgram, lone_func, lone_program};
 ghost use Rattle.lowering_table.specs.Allocators.{unreachable_code};
-ghost use Rattle.lowering_table.specs.Modules.{ArePages, low_function, low_module, main_code};
+ghost use Rattle.lowering_table.specs.Codes.{low_function, main_code};
+ghost use Rattle.lowering_table.specs.Modules.{ArePages, low_module};
 ghost use Rattle.lower.specs.Heights.{AreWithin};
 ghost use Rattle.lower.specs.Lone.{IsLoneFunc, lone_code, lone_codes};
 

@@ -1,7 +1,7 @@
 use Rattle.std.proofs.Common.{◌≡◌, ◌∙◌, IfOk, subst, sym}
 use Rattle.wasm_ast.specs.declared.modules.Code.{Code}
 use Rattle.rw_program.specs.declared.linked.LinkedFunc.{LinkedFunc}
-use Rattle.lowering_table.specs.Modules.{low_function}
+use Rattle.lowering_table.specs.Codes.{low_function}
 use Rattle.lowering_table.proofs.PlainBodies.{low_function-plain}
 use Rattle.lower.specs.Lone.{lone_code}
 use Rattle.lower.proofs.low.function.Goals as goal
