@@ -21,7 +21,8 @@ use Rattle.lowering_table.specs.declared.Pages.{Pages}
 use Rattle.lowering_table.specs.Allocators.{unreachable_code}
 use Rattle.lowering_table.specs.Frames.{room_of}
 use Rattle.lowering_table.specs.Rows.{row, rows}
-use Rattle.lowering_table.specs.Modules.{ArePages, code_of, free_list_bytes, low_function, low_module, main_code, region_start}
+use Rattle.lowering_table.specs.Codes.{code_of, low_function, main_code}
+use Rattle.lowering_table.specs.Modules.{ArePages, free_list_bytes, low_module, region_start}
 use Rattle.lowering_table.proofs.PlainBodies.{low_function-plain, low_module-plain, plain-height}
 use Rattle.lower.specs.Heights.{IsWithin, AreWithin}
 use Rattle.lower.specs.Laws.{LowIsInProfile}

@@ -1,5 +1,5 @@
 -- The lowered module of a program of one function, part by part.
-use Rattle.std.proofs.Common.{◌≡◌, List, [], refl, ap, sym, ◌∙◌, get_or, arith}
+use Rattle.std.proofs.Common.{◌≡◌, List, [], ap, sym, ◌∙◌, get_or, arith}
 use Rattle.wasm_ast.specs.declared.modules.WModule.{WModule}
 use Rattle.rw_program.specs.declared.linked.LinkedFunc.{LinkedFunc}
 use Rattle.rw_program.specs.LonePrograms.{IsLoneProgram, lone_func, lone_program}

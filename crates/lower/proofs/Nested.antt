@@ -15,7 +15,8 @@ use Rattle.rich_typing.specs.declared.notes.Note.{Note}
 use Rattle.rw_program.specs.declared.linked.LinkedFunc.{LinkedFunc}
 use Rattle.lowering_table.specs.declared.Pages.{Pages}
 use Rattle.lowering_table.specs.Rows.{row, rows}
-use Rattle.lowering_table.specs.Modules.{low_function, region_start}
+use Rattle.lowering_table.specs.Codes.{low_function}
+use Rattle.lowering_table.specs.Modules.{region_start}
 use Rattle.lowering_table.proofs.PlainBodies.{low_function-plain}
 use Rattle.lower.specs.Lone.{IsLoneFunc, lone_module}
 

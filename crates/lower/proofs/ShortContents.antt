@@ -29,7 +29,8 @@ use Rattle.lowering_table.specs.declared.Pages.{Pages}
 use Rattle.lowering_table.specs.Allocators.{unreachable_code}
 use Rattle.lowering_table.specs.Frames.{room_of}
 use Rattle.lowering_table.specs.Rows.{row, rows}
-use Rattle.lowering_table.specs.Modules.{code_of, first_pages, most_pages, free_list_bytes, low_function, low_module, main_code, region_start, word_global}
+use Rattle.lowering_table.specs.Codes.{code_of, low_function, main_code}
+use Rattle.lowering_table.specs.Modules.{first_pages, most_pages, free_list_bytes, low_module, region_start, word_global}
 use Rattle.lowering_table.proofs.PlainBodies.{low_function-plain, low_module-plain}
 use Rattle.lower.specs.Laws.{LowHasShortContents}
 use Rattle.lower.specs.Lone.{lone_module}

@@ -5,7 +5,7 @@ use Rattle.rw_types.specs.declared.instrs.Instr.{Unreachable}
 use Rattle.rich_typing.specs.Table.{note_of}
 use Rattle.rw_program.specs.declared.linked.LinkedFunc.{LinkedFunc}
 use Rattle.rw_program.specs.LonePrograms.{lone_func}
-use Rattle.lowering_table.specs.Modules.{low_function}
+use Rattle.lowering_table.specs.Codes.{low_function}
 
 abbrev pub ended_func : LinkedFunc
 ended_func = lone_func (Unreachable ∷ []) (note_of [] Unreachable [] ∷ [])

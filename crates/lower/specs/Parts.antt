@@ -13,7 +13,8 @@ use Rattle.wasm_ast.specs.declared.modules.WGlobal.{WGlobal}
 use Rattle.wasm_ast.specs.declared.modules.ImportKind.TheVariants as import_kind
 use Rattle.wasm_ast.specs.declared.modules.ExportKind.TheVariants as export_kind
 use Rattle.lowering_table.specs.declared.Pages.{Pages}
-use Rattle.lowering_table.specs.Modules.{print_type, alloc_type, start_type, word_global, region_start, first_pages, most_pages, free_list_bytes}
+use Rattle.lowering_table.specs.Types.{print_type, alloc_type, start_type}
+use Rattle.lowering_table.specs.Modules.{word_global, region_start, first_pages, most_pages, free_list_bytes}
 
 abbrev pub lone_types : List FuncType
 lone_types = print_type ∷ alloc_type ∷ record { params = []; result = None } ∷ start_type ∷ []

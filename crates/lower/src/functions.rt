@@ -3,7 +3,7 @@ ghost use Rattle.std.specs.Prelude.{◌≡◌, ◌≤◌, ◌<◌, ◌+◌, ◌^
 ghost use Rattle.rw_types.specs.LoneMain.{IsPlain, ArePlain};
 ghost use Rattle.lowering_table.specs.Allocators.{unreachable_code};
 ghost use Rattle.lowering_table.specs.Frames.{height_of, room_of};
-ghost use Rattle.lowering_table.specs.Modules.{code_of};
+ghost use Rattle.lowering_table.specs.Codes.{code_of};
 ghost use Rattle.lowering_table.specs.Rows.{row, rows, gives};
 ghost use Rattle.lower.specs.Heights.{IsWithin, AreWithin};
 

@@ -7,14 +7,19 @@ ghost use Rattle.machine_steps.specs.Agreement.{Alike};
 ghost use Rattle.machine_steps.specs.Ending.{BothEnd};
 ghost use Rattle.rich_reduction.specs.Starts.{rich};
 ghost use Rattle.wasm_execution.specs.Behaviour.{wasm};
+ghost use Rattle.rw_types.specs.LoneMain.{ArePlain};
 ghost use Rattle.rw_program.specs.LonePrograms.{IsLoneProgram, lone_func, lone_program};
 ghost use Rattle.lowering_table.specs.Allocators.{unreachable_code};
-ghost use Rattle.lowering_table.specs.Modules.{ArePages, low_function, low_module, main_code};
-ghost use Rattle.lower.specs.Lone.{IsLoneFunc, lone_codes};
+ghost use Rattle.lowering_table.specs.Codes.{low_function, main_code};
+ghost use Rattle.lowering_table.specs.Modules.{ArePages, low_module};
+ghost use Rattle.lower.specs.Heights.{AreWithin};
+ghost use Rattle.lower.specs.Lone.{IsLoneFunc, lone_code, lone_codes};
 
 use crate::{LowerError, functions, parts};
 use lowering_table::Pages;
+use rich_typing::Note;
 use rw_program::{Linked, LinkedFunc};
+use rw_types::Instr;
 use std::alloc::Global;
 use wasm_ast::{Code, Limits, List, WInstr, WModule};
 
@@ -67,18 +72,27 @@ fn codes(alloc: Global, func: &LinkedFunc) -> Result<List<Code>, LowerError>
     Ok(codes)
 }
 
-// The code of the linked function: its list, and its result word goes to the result global.
+// The code of the linked function.
 fn function(alloc: Global, func: &LinkedFunc) -> Result<Code, LowerError>
     requires { IsLoneFunc func.now }
     ensures { IfOk result (λ code. code ≡ low_function func.now) }
 {
-    let instrs = func.body.as_slice();
+    let body = func.body.as_slice();
     let notes = func.notes.as_slice();
-    let mut body = List::new(alloc);
-    functions::push_rows(&mut body, 0, instrs, notes)?;
-    body.push(WInstr::LocalGet(0))?;
-    body.push(WInstr::GlobalSet(2))?;
-    functions::code(alloc, functions::room(instrs, notes, 1) as u32 + 2, body)
+    lone_function(alloc, body, notes)
+}
+
+// The code of a function of plain instructions: its list, and its result word goes to the result global.
+fn lone_function(alloc: Global, body: &[Instr], notes: &[Note]) -> Result<Code, LowerError>
+    requires plain { ArePlain body.now }
+    requires within { AreWithin 1000 notes.now }
+    ensures { IfOk result (λ code. code ≡ lone_code body.now notes.now) }
+{
+    let mut code = List::new(alloc);
+    functions::push_rows(&mut code, 0, body, notes)?;
+    code.push(WInstr::LocalGet(0))?;
+    code.push(WInstr::GlobalSet(2))?;
+    functions::code(alloc, functions::room(body, notes, 1) as u32 + 2, code)
 }
 
 // The code of the exported main: it calls the linked function, and gets its result.

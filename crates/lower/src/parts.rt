@@ -1,7 +1,8 @@
 // The sections of the lowered module but for its codes.
 ghost use Rattle.std.specs.Prelude.{◌≡◌, [], ◌∷◌, ◌+◌, ◌≤◌, IfOk, None, Some};
 ghost use Rattle.wasm_ast.specs.declared.types.ValTy.TheVariants.{I64};
-ghost use Rattle.lowering_table.specs.Modules.{ArePages, print_type, alloc_type, start_type, first_pages, most_pages, free_list_bytes, word_global, region_start};
+ghost use Rattle.lowering_table.specs.Types.{print_type, alloc_type, start_type};
+ghost use Rattle.lowering_table.specs.Modules.{ArePages, first_pages, most_pages, free_list_bytes, word_global, region_start};
 ghost use Rattle.lower.specs.Parts.{lone_types, lone_imports, lone_memories, lone_globals, lone_exports, lone_elements, lone_segments};
 
 use crate::LowerError;

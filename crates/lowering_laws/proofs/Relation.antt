@@ -19,7 +19,8 @@ use Rattle.rw_program.specs.Programs.{Program}
 use Rattle.lowering_table.specs.declared.Pages.{Pages}
 use Rattle.lowering_table.specs.Allocators.{unreachable_code}
 use Rattle.lowering_table.specs.Frames.{room_of}
-use Rattle.lowering_table.specs.Modules.{low_module, main_code}
+use Rattle.lowering_table.specs.Codes.{main_code}
+use Rattle.lowering_table.specs.Modules.{low_module}
 use Rattle.lowering_table.specs.Rows.{rows}
 use Rattle.lowering_table.proofs.PlainBodies.{plain_code, plain_module, low_function-plain, low_module-plain}
 use Rattle.machine_steps.specs.Steps.{Turn, Went}

@@ -1,13 +1,13 @@
 -- The lowered module starts: its import is the print, its segments lie within table and memory, and `main` is there.
-use Rattle.std.proofs.Common.{◌≡◌, ◌+◌, ◌*◌, ◌≤◌, Bool, true, List, [], ◌∷◌, ap, arith}
-use Rattle.std.specs.Prelude.{nat_le, Option, Some, None}
+use Rattle.std.proofs.Common.{◌≡◌, ◌+◌, ◌*◌, Bool, true, List, [], ◌∷◌, ap, arith}
+use Rattle.std.specs.Prelude.{nat_le, Some, None}
 use Rattle.std.proofs.lemmas.Bool.{le-leb}
 use Rattle.wasm_ast.specs.declared.instructions.WInstr.{out-WInstr}
 use Rattle.rw_types.specs.declared.instrs.Instr.{Instr}
 use Rattle.rich_typing.specs.declared.notes.Note.{Note}
 use Rattle.lowering_table.specs.declared.Pages.{Pages}
 use Rattle.lowering_table.specs.Modules.{ArePages, first_pages}
-use Rattle.wasm_execution.specs.Starts.{Start, SegmentOut, Begins, first_failing, start_exported, start_of}
+use Rattle.wasm_execution.specs.Starts.{SegmentOut, Begins, first_failing, start_exported, start_of}
 use Rattle.lowering_laws.proofs.Relation.{begin, m}
 
 -- the data segment ends at byte 24

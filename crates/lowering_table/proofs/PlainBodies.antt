@@ -1,5 +1,5 @@
 -- A program of one function with a body of plain instructions: there is no list in it, none is ended, and no call is indirect.
-use Rattle.std.proofs.Common.{◌≡◌, ◌∙◌, ℕ, ◌+◌, Bool, true, false, List, [], ◌∷◌, ◌++◌, None, refl, ap}
+use Rattle.std.proofs.Common.{◌≡◌, ◌∙◌, ◌+◌, Bool, false, List, [], ◌∷◌, ◌++◌, None, refl, ap}
 use Rattle.std.specs.Prelude.{if◌then◌else◌}
 use Rattle.wasm_ast.specs.declared.types.FuncType.{FuncType}
 use Rattle.wasm_ast.specs.declared.modules.Code.{Code}
@@ -14,7 +14,9 @@ use Rattle.lowering_table.specs.Frames.{height_of, room_of, words_before}
 use Rattle.lowering_table.specs.Rows.{rows, gives}
 use Rattle.lowering_table.specs.declared.Pages.{Pages}
 use Rattle.lowering_table.specs.TypeUses.{first_uses, type_index}
-use Rattle.lowering_table.specs.Modules.{alloc_type, called_type, called_types, code_of, low_function, low_module, low_type, low_types, print_type, start_type}
+use Rattle.lowering_table.specs.Codes.{code_of, low_function}
+use Rattle.lowering_table.specs.Types.{alloc_type, called_type, called_types, low_type, low_types, print_type, start_type}
+use Rattle.lowering_table.specs.Modules.{low_module}
 
 plain-nested : (i : Instr) → IsPlain i → nested i ≡ []
 plain-nested (I64Const n) plain = refl

@@ -5,7 +5,7 @@ use Rattle.std.proofs.lemmas.Option.{none-some}
 use Rattle.wasm_ast.specs.declared.types.FuncType.{FuncType}
 use Rattle.rw_program.specs.declared.linked.LinkedFunc.{LinkedFunc}
 use Rattle.lowering_table.specs.TypeUses.{type_index}
-use Rattle.lowering_table.specs.Modules.{low_type, low_types, start_type, used_types}
+use Rattle.lowering_table.specs.Types.{low_type, low_types, start_type, used_types}
 use Rattle.lowering_table.specs.TypeLaws.{FunctionsHaveTheirTypes, ListedTypesAreUsed, TypesAreInOrder, TypesAreListedOnce, UsedTypesAreListed}
 use Rattle.lowering_table.proofs.TypeOrder.{uses_in_order}
 use Rattle.lowering_table.proofs.TypePlaces.{Has, each_use, uses_once, uses_stand}

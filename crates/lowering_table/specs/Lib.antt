@@ -3,6 +3,8 @@ pub mod Frames
 pub mod Rows
 pub mod TypeUses
 pub mod Allocators
+pub mod Codes
+pub mod Types
 pub mod Modules
 pub mod TypeLaws
 pub mod Worked

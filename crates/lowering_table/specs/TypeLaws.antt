@@ -4,7 +4,8 @@ use Rattle.wasm_ast.specs.declared.types.FuncType.{FuncType}
 use Rattle.rw_program.specs.Programs.{Program}
 use Rattle.lowering_table.specs.declared.Pages.{Pages}
 use Rattle.lowering_table.specs.TypeUses.{type_index}
-use Rattle.lowering_table.specs.Modules.{alloc_type, low_module, low_type, low_types, print_type, start_type, used_types}
+use Rattle.lowering_table.specs.Types.{alloc_type, low_type, low_types, print_type, start_type, used_types}
+use Rattle.lowering_table.specs.Modules.{low_module}
 
 -- each type that is used stands in the list of types at its index
 abbrev pub UsedTypesAreListed : Type 0

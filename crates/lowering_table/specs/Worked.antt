@@ -1,14 +1,15 @@
 -- Codes and heights of the table, written out (this project's own rows).
 use Rattle.std.specs.Prelude.{◌≡◌, ℕ, List, [], ◌∷◌, false, None}
 use Rattle.wasm_ast.specs.declared.instructions.WInstr as w
-use Rattle.wasm_ast.specs.declared.modules.Code.{Code}
-use Rattle.rw_types.specs.declared.instrs.Instr.{Instr, I64Const, Num, StructSwap, Unreachable}
+use Rattle.wasm_ast.specs.declared.types.ValTy.TheVariants.{I64}
+use Rattle.rw_types.specs.declared.instrs.BlockSig.{BlockSig}
+use Rattle.rw_types.specs.declared.instrs.Instr.{Instr, Block, CallIndirect, Drop, I64Const, If, Nop, Num, Print, StructSwap, Unit, Unreachable}
 use Rattle.rw_types.specs.declared.numbers.NumName.TheVariants.{I64Add}
 use Rattle.rw_types.specs.declared.types.Binder.TheVariants.{Loc}
 use Rattle.rw_types.specs.declared.types.Heap.TheVariants.{Struct}
 use Rattle.rw_types.specs.declared.types.Mem.TheVariants.{L}
 use Rattle.rw_types.specs.declared.types.Pre.{Ref}
-use Rattle.rw_types.specs.declared.types.Pre.TheVariants.{Tuple}
+use Rattle.rw_types.specs.declared.types.Pre.TheVariants.{Code, Tuple}
 use Rattle.rw_types.specs.declared.types.Priv.TheVariants.{Rw}
 use Rattle.rw_types.specs.declared.types.Qual.TheVariants.{Lin, Unr}
 use Rattle.rw_types.specs.declared.types.Ty.{Ty, Of}
@@ -17,8 +18,10 @@ use Rattle.rich_typing.specs.Table.{unr_i64, i64s, note_of}
 use Rattle.rw_program.specs.declared.linked.LinkedGlobal.{LinkedGlobal}
 use Rattle.rw_program.specs.LonePrograms.{lone_func}
 use Rattle.rw_program.specs.Programs.{Program}
+use Rattle.lowering_table.specs.Bodies.{text_order}
 use Rattle.lowering_table.specs.Frames.{height_of}
-use Rattle.lowering_table.specs.Modules.{code_of, low_function, main_code}
+use Rattle.lowering_table.specs.Codes.{code_of, low_function, main_code}
+use Rattle.lowering_table.specs.Types.{alloc_type, low_types, print_type, start_type}
 
 -- what the points before these instructions tell, where each has so many numbers of 64 bits before it
 abbrev pub notes_at : List Instr → List ℕ → List Note
@@ -78,3 +81,35 @@ swap_note = record {
 -- the reference, the new number, and the old one
 abbrev pub SwapHeight : Type 0
 SwapHeight = height_of (StructSwap 0) swap_note ≡ 3
+
+abbrev pub no_change : BlockSig
+no_change = record { params = []; results = []; locals = [] }
+
+-- an instruction stands before those of its lists, and these before what follows it
+abbrev pub NestedOrder : Type 0
+NestedOrder =
+    text_order (If no_change (Nop ∷ Print ∷ []) (Block no_change (Unit ∷ []) ∷ []) ∷ Drop ∷ [])
+    ≡ If no_change (Nop ∷ Print ∷ []) (Block no_change (Unit ∷ []) ∷ []) ∷ Nop ∷ Print ∷ Block no_change (Unit ∷ []) ∷ Unit ∷ Drop ∷ []
+
+-- the note of an indirect call of a function that takes two numbers
+abbrev pub call_note : Note
+call_note = record {
+  binders = [];
+  beneath = 0;
+  taken = unr_i64 ∷ unr_i64 ∷ Of Unr (Code (record { binders = []; params = unr_i64 ∷ unr_i64 ∷ []; results = [] })) ∷ [];
+  local = None;
+}
+
+-- a program whose function makes such a call within a block
+abbrev pub calling : Program
+calling = record {
+  funcs = lone_func (Block no_change (CallIndirect ∷ []) ∷ []) (note_of [] Nop [] ∷ call_note ∷ []) ∷ [];
+  globals = [];
+  main = 0;
+}
+
+-- its type stands after that of the exported main
+abbrev pub IndirectTypes : Type 0
+IndirectTypes =
+    low_types calling
+    ≡ print_type ∷ alloc_type ∷ record { params = []; result = None } ∷ start_type ∷ record { params = I64 ∷ I64 ∷ []; result = None } ∷ []

@@ -3,7 +3,7 @@
 #![tactic(auto)]
 
 ghost use Rattle.lowering_table.specs.TypeLaws.{FunctionsHaveTheirTypes, ListedTypesAreUsed, TypesAreInOrder, TypesAreListedOnce, UsedTypesAreListed};
-ghost use Rattle.lowering_table.specs.Worked.{EndedFunction, EndedInitialiser, SwapHeight, TwoInitialisers};
+ghost use Rattle.lowering_table.specs.Worked.{EndedFunction, EndedInitialiser, IndirectTypes, NestedOrder, SwapHeight, TwoInitialisers};
 
 /// How many pages of 65,536 bytes the memory of a lowered program has: 1 to 512 for the linear part, and 0 to 512
 /// for the unrestricted region; this project's own.
@@ -25,10 +25,13 @@ pub fn types_are_indexed()
 {}
 
 /// Rows: the code of a function whose list is ended at once; that of an exported main with two initialisers, and with one whose
-/// list is ended at once; and the height of a swap.
+/// list is ended at once; the height of a swap; the order of the instructions of a body with lists; and the types of a program
+/// with an indirect call in a block.
 pub fn rows_are_lowered()
     ensures ended { EndedFunction }
     ensures initialisers { TwoInitialisers }
     ensures ended_initialiser { EndedInitialiser }
     ensures swap { SwapHeight }
+    ensures order { NestedOrder }
+    ensures types { IndirectTypes }
 {}

@@ -1,4 +1,4 @@
-use Rattle.lowering_table.proofs.Worked.{ended_function, ended_initialiser, swap-height, two_initialisers}
+use Rattle.lowering_table.proofs.Worked.{ended_function, ended_initialiser, indirect_types, nested_order, swap-height, two_initialisers}
 use Rattle.lowering_table.proofs.rows_are_lowered.Goals as goal
 
 pub returns-clause-ended : goal.returns-clause-ended
@@ -12,3 +12,9 @@ returns-clause-ended_initialiser c = ended_initialiser
 
 pub returns-clause-swap : goal.returns-clause-swap
 returns-clause-swap c = swap-height
+
+pub returns-clause-order : goal.returns-clause-order
+returns-clause-order c = nested_order
+
+pub returns-clause-types : goal.returns-clause-types
+returns-clause-types c = indirect_types

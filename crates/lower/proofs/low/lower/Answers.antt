@@ -42,8 +42,8 @@ returns-clause-short c =
 
 pub returns-clause-behaves : goal.returns-clause-behaves
 returns-clause-behaves c =
-    subst (λ (m : WModule). Alike (λ n. rich c.args.p.now n) (λ k. wasm m k)) (sym (returns-clause-low c)) (lowered_behaves c.args.p.now c.args.pages.now c.funcs.ensures.form)
+    subst (λ (m : WModule). Alike (λ n. rich c.args.p.now n) (λ k. wasm m k)) (sym (returns-clause-low c)) (lowered_behaves c.args.p.now c.args.pages.now c.funcs.ensures.form c.requires)
 
 pub returns-clause-ends : goal.returns-clause-ends
 returns-clause-ends c =
-    subst (λ (m : WModule). BothEnd (λ n. rich c.args.p.now n) (λ k. wasm m k)) (sym (returns-clause-low c)) (lowered_ends c.args.p.now c.args.pages.now c.funcs.ensures.form)
+    subst (λ (m : WModule). BothEnd (λ n. rich c.args.p.now n) (λ k. wasm m k)) (sym (returns-clause-low c)) (lowered_ends c.args.p.now c.args.pages.now c.funcs.ensures.form c.requires)
