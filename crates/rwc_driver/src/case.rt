@@ -1,6 +1,5 @@
 // A case, read from its line.
 use hex::decode;
-use percent_encoding::percent_decode;
 use std::alloc::Global;
 use std::io::{self, ErrorKind};
 
@@ -53,7 +52,7 @@ impl Case {
     }
 
     fn add_word(&mut self, alloc: Global, value: &str) -> io::Result<()> {
-        self.words.push(text_of(alloc, value)?)?;
+        self.words.push(String::from_str(alloc, value)?)?;
         Ok(())
     }
 
@@ -61,7 +60,7 @@ impl Case {
         let Some((name, content)) = value.split_once(':') else {
             return Err(no_case());
         };
-        let name = text_of(alloc, name)?;
+        let name = String::from_str(alloc, name)?;
         self.files.push((name, content_of(alloc, kind, content)?))?;
         Ok(())
     }
@@ -98,7 +97,7 @@ fn no_case() -> io::Error {
 
 fn content_of(alloc: Global, kind: &str, content: &str) -> io::Result<Vec<u8>> {
     match kind {
-        "text" => bytes_of(alloc, content),
+        "text" => text_bytes(alloc, content),
         "hex" => hex_bytes(alloc, content),
         "zeros" => zeros(alloc, content),
         _ => Err(no_case()),
@@ -117,17 +116,9 @@ fn hex_bytes(alloc: Global, digits: &str) -> io::Result<Vec<u8>> {
     }
 }
 
-fn bytes_of(alloc: Global, text: &str) -> io::Result<Vec<u8>> {
-    let mut bytes = Vec::new(alloc);
-    percent_decode(text.as_bytes()).append_to(&mut bytes)?;
+fn text_bytes(alloc: Global, text: &str) -> io::Result<Vec<u8>> {
+    let bytes = text.as_bytes().to_vec(alloc)?;
     Ok(bytes)
-}
-
-fn text_of(alloc: Global, text: &str) -> io::Result<String> {
-    match String::from_utf8(bytes_of(alloc, text)?) {
-        Ok(text) => Ok(text),
-        Err(_) => Err(no_case()),
-    }
 }
 
 fn number(digits: &str) -> io::Result<u64> {
