@@ -1,5 +1,6 @@
-//! The outside: a shelf of files and a sink of bytes, as traits with a written meaning, with their forms in
-//! memory and over the system.
+//! The outside: a shelf of files and a sink of bytes, as traits with a written meaning, in memory and over the system.
+//! Definitions: `States` and `Files` (what is told), `CountedCalls` (what a call counts), `Whole` and `Taken` (a piece that
+//! is offered whole), `MemStates` and `OsStates` (the forms). Laws: what calls took of a piece is its front.
 #![tactic(auto)]
 
 mod counts;
