@@ -2,13 +2,13 @@
 use Rattle.std.proofs.Common.{◌≡◌, ◌+◌, ◌<◌, ◌≤◌, ℕ, zero, suc, List, [], ◌∷◌, ◌++◌, map, take, drop, get_or, length, refl, ap, sym, ◌∙◌, arith, string_bytes}
 use Rattle.std.specs.declared.alloc.Global.{Global}
 use Rattle.std.specs.declared.string.String.{String}
-use Rattle.rwc.specs.Acts.{Act, put}
-use Rattle.rwc.specs.Dumps.{lines_job}
+use Rattle.rwc_reports.specs.Acts.{Act, put}
+use Rattle.rwc_reports.specs.Jobs.{lines_job}
 
 abbrev pub put_line : String Global → Act
 put_line line = put (string_bytes line)
 
-pub acts_of : (lines : List (String Global)) → (lines_job (map string_bytes lines)).acts ≡ map put_line lines
+pub acts_of : (lines : List (String Global)) → (lines_job (map string_bytes lines) 0).acts ≡ map put_line lines
 acts_of [] = refl
 acts_of (line ∷ lines) = ap (λ (acts : List Act). put_line line ∷ acts) (acts_of lines)
 

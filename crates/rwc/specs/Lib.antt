@@ -1,13 +1,2 @@
-pub mod Acts
-pub mod Lines
-pub mod Compiled
-pub mod Jobs
-pub mod Dumps
-pub mod Reports
-pub mod Endings
 pub mod Stops
-pub mod Outcomes
-pub mod Refusals
-pub mod Built
-pub mod Answers
-pub mod Dumped
+pub mod Kept

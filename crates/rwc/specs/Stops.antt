@@ -1,15 +1,16 @@
 -- What the code's endings say.
-use Rattle.std.specs.Prelude.{◌≡◌, ◌⊎◌, ℕ, List, [], ⊤, Vec, string_bytes}
+use Rattle.std.specs.Prelude.{◌≡◌, ℕ, List, [], map, ⊤, Vec, string_bytes}
 use Rattle.std.specs.declared.alloc.Global.{Global}
+use Rattle.std.specs.declared.string.String.{String}
 use Rattle.std.specs.declared.result.Result.{Result}
 use Rattle.std.specs.declared.result.Result.TheVariants.{Ok, Err}
 use Rattle.rwc.specs.declared.ending.Done.{Done}
 use Rattle.rwc.specs.declared.ending.Done.TheVariants.{Finished, Trapped, Spent}
 use Rattle.rwc.specs.declared.ending.Stop.{Stop}
 use Rattle.rwc.specs.declared.ending.Stop.TheVariants.{Refused as RefusedStop, Unread, Unwritten, Memory}
-use Rattle.rwc.specs.Acts.{Act, Seen, IsPart, after_act, after_acts}
-use Rattle.rwc.specs.Lines.{memory_line, write_fault_line}
-use Rattle.rwc.specs.Compiled.{Refused}
+use Rattle.rwc_reports.specs.Acts.{Act, Outside, IsPart, after_act, after_acts}
+use Rattle.rwc_reports.specs.Lines.{memory_line, write_fault_line}
+use Rattle.rwc_reports.specs.Steps.{Refused}
 
 abbrev pub done_status : Done → ℕ
 done_status Finished = 0
@@ -47,25 +48,27 @@ abbrev pub IfStopped : {T : Type 0} → Result T Stop → (ℕ → List ℕ → 
 IfStopped (Ok _) Refusal Load Write = ⊤
 IfStopped (Err stop) Refusal Load Write = IfStop stop Refusal Load Write
 
--- the answer is one that Leads allows, or a failed load, or want of memory
-abbrev pub IsStep : (Result (List ℕ) Refused → Type 0) → Result (Vec ℕ Global) Stop → Type 0
-IsStep Leads (Ok bytes) = Leads (Ok bytes.items)
-IsStep Leads (Err stop) = IfStop stop (λ status line. Leads (Err (record { status = status; line = line }))) (λ _. ⊤) (λ _. ⊥)
+-- the answer, as `view` sees it, is one that the step allows, or want of memory
+abbrev pub IsStep : {T A : Type 0} → (T → A) → (Result A Refused → Type 0) → Result T Stop → Type 0
+IsStep view Leads (Ok value) = Leads (Ok (view value))
+IsStep view Leads (Err stop) = IfStop stop (λ status line. Leads (Err (record { status = status; line = line }))) (λ _. ⊥) (λ _. ⊥)
+
+-- bytes, and the bytes of texts
+abbrev pub bytes_of : Vec ℕ Global → List ℕ
+bytes_of bytes = bytes.items
+
+abbrev pub texts_of : Vec (String Global) Global → List (List ℕ)
+texts_of texts = map string_bytes texts.items
 
 -- an act was begun and not done whole
-pub record Breaks (act : Act) (before after : Seen) (stop : Stop) : Type 0 where
+pub record StopsWithin (act : Act) (before after : Outside) (stop : Stop) : Type 0 where
   pub part : List Act
   pub left : ℕ
   pub is_part : IsPart act part left
-  pub seen : after ≡ after_acts part before
+  pub outside : after ≡ after_acts part before
   pub says : IfStop stop (λ _ _. ⊥) (λ _. ⊥) (λ line. line ≡ write_fault_line left)
 
 -- an act was done whole, or begun and not done whole
-abbrev pub Performs : {T : Type 0} → Act → Seen → Seen → Result T Stop → Type 0
+abbrev pub Performs : {T : Type 0} → Act → Outside → Outside → Result T Stop → Type 0
 Performs act before after (Ok _) = after ≡ after_act act before
-Performs act before after (Err stop) = Breaks act before after stop
-
--- the statuses of a refused file: its text or module is refused, it is missing or too long, its binary is malformed, or a
--- section of its binary would be too long
-abbrev pub IsRefusal : ℕ → Type 0
-IsRefusal status = (status ≡ 1) ⊎ ((status ≡ 3) ⊎ ((status ≡ 9) ⊎ (status ≡ 11)))
+Performs act before after (Err stop) = StopsWithin act before after stop

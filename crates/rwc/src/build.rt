@@ -1,43 +1,40 @@
 // The command `build`: a binary is made of a file, created under a name, and a line says so.
-ghost use Rattle.std.specs.Prelude.{◌≡◌, true, List, Ok, Some};
-ghost use Rattle.rw_io.specs.Counts.{Rose};
-ghost use Rattle.rw_io.specs.Files.{NamedFile, content_of};
+ghost use Rattle.std.specs.Prelude.{◌≡◌, IfOk};
 ghost use Rattle.rw_io.specs.States.{NoShelfCountFell};
-ghost use Rattle.rwc.specs.Acts.{seen_of};
-ghost use Rattle.rwc.specs.Endings.{Follows, Keeps, WriteRose};
-ghost use Rattle.rwc.specs.Lines.{read_fault_line};
-ghost use Rattle.rwc.specs.Reports.{ContentLeads, BuildReports, build_job};
-ghost use Rattle.lowering_table.specs.Modules.{ArePages};
-ghost use Rattle.words.specs.Files.{is_source_file};
-ghost use Rattle.rwc.specs.Stops.{IsRefusal, IsStep, IfStopped, status_of, line_of};
+ghost use Rattle.words.specs.Commands.{spelled_build, HasPages};
+ghost use Rattle.words.specs.Words.{HasFiles};
+ghost use Rattle.rwc_reports.specs.Acts.{outside_of};
+ghost use Rattle.rwc_reports.specs.Endings.{CarriesOut, WriteRose};
+ghost use Rattle.rwc_reports.specs.Reports.{build_job};
+ghost use Rattle.rwc.specs.Kept.{KeepsCommand};
+ghost use Rattle.rwc.specs.Stops.{IfStopped, status_of, line_of};
 
-use crate::compile::binary_of_text;
+use crate::compile::compile;
 use crate::ending::{Done, Stop};
 use crate::lines;
-use crate::load::load_file;
 use crate::perform::{append_piece, create_file, put_piece};
 use lower::Pages;
 use rw_io::{Shelf, Sink};
 use std::alloc::Global;
+use words::Build;
 
-/// The binary that a file gives, for so many pages.
-fn binary_of_file<S: Shelf>(
+/// Builds a binary of a file, creates it under a name, and says so.
+pub fn build<S: Shelf, O: Sink>(
     alloc: Global,
-    pages: &Pages,
-    file: &str,
+    words: &Build<'_>,
     shelf: &mut S,
-) -> Result<Vec<u8>, Stop>
-    requires source { is_source_file file.now ≡ true }
-    requires pages { ArePages pages.now }
-    ensures content { (files : List NamedFile) → (S.state shelf.old).holding.files ≡ Some files
-        → IsStep (ContentLeads pages.now file.now (content_of files file.now)) result }
-    ensures causes { IfStopped result (λ status _. IsRefusal status)
-        (λ line. (line ≡ read_fault_line file.now) × Rose (S.state shelf.old).load_faults (S.state shelf.new).load_faults) (λ _. ⊥) }
-    ensures same { (S.state shelf.new).holding ≡ (S.state shelf.old).holding }
-    ensures counts { NoShelfCountFell (S.state shelf.old) (S.state shelf.new) }
+    out: &mut O,
+) -> Result<Done, Stop>
+    requires files { HasFiles (spelled_build words.now) }
+    requires pages { HasPages (spelled_build words.now) }
+    ensures { KeepsCommand (spelled_build words.now) (S.state shelf.old) (S.state shelf.new) (O.state out.old) (O.state out.new) result }
 {
-    match load_file(alloc, shelf, file) {
-        Ok(bytes) => binary_of_text(alloc, pages, file, &bytes),
+    let pages = Pages {
+        lin: words.lin,
+        unr: words.unr,
+    };
+    match compile(alloc, &pages, &words.source, shelf) {
+        Ok(binary) => deliver(alloc, words.name, &binary, shelf, out),
         Err(stop) => Err(stop),
     }
 }
@@ -50,8 +47,9 @@ fn deliver<S: Shelf, O: Sink>(
     shelf: &mut S,
     out: &mut O,
 ) -> Result<Done, Stop>
-    ensures follows { Follows (build_job name.now (Ok binary.now)) (seen_of (S.state shelf.old) (O.state out.old))
-        (seen_of (S.state shelf.new) (O.state out.new)) (status_of result) (line_of result) }
+    ensures carries_out { CarriesOut (build_job name.now binary.now) (outside_of (S.state shelf.old) (O.state out.old))
+        (outside_of (S.state shelf.new) (O.state out.new)) (status_of result) (line_of result) }
+    ensures finished { IfOk result (λ done. done ≡ Done.Finished) }
     ensures causes { IfStopped result (λ _ _. ⊥) (λ _. ⊥)
         (λ _. WriteRose (S.state shelf.old) (S.state shelf.new) (O.state out.old) (O.state out.new)) }
     ensures counts { NoShelfCountFell (S.state shelf.old) (S.state shelf.new) }
@@ -69,28 +67,4 @@ fn deliver<S: Shelf, O: Sink>(
         return Err(stop);
     }
     Ok(Done::Finished)
-}
-
-/// Builds a binary of a file for so many pages, creates it under a name, and says so.
-pub fn build<S: Shelf, O: Sink>(
-    alloc: Global,
-    pages: &Pages,
-    name: &str,
-    file: &str,
-    shelf: &mut S,
-    out: &mut O,
-) -> Result<Done, Stop>
-    requires source { is_source_file file.now ≡ true }
-    requires pages { ArePages pages.now }
-    ensures keeps { (files : List NamedFile) → (S.state shelf.old).holding.files ≡ Some files
-        → Keeps (BuildReports pages.now name.now file.now files) (seen_of (S.state shelf.old) (O.state out.old))
-        (seen_of (S.state shelf.new) (O.state out.new)) (status_of result) (line_of result) }
-    ensures causes { IfStopped result (λ status _. IsRefusal status)
-        (λ _. Rose (S.state shelf.old).load_faults (S.state shelf.new).load_faults)
-        (λ _. WriteRose (S.state shelf.old) (S.state shelf.new) (O.state out.old) (O.state out.new)) }
-{
-    match binary_of_file(alloc, pages, file, shelf) {
-        Ok(binary) => deliver(alloc, name, &binary, shelf, out),
-        Err(stop) => Err(stop),
-    }
 }

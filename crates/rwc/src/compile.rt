@@ -1,18 +1,23 @@
-// From the text of a file to the bytes of a binary.
-ghost use Rattle.std.specs.Prelude.{◌≡◌, true, IfOk, Some};
-ghost use Rattle.wasm_grammar.specs.Nesting.{ModuleNestsAtMost, nesting_limit};
-ghost use Rattle.wasm_grammar.specs.Profile.{IsInProfile};
+// From a source file to the bytes of a binary, a step after another.
+ghost use Rattle.std.specs.Prelude.{◌≡◌, List, [], ◌∷◌, IfOk, Some};
 ghost use Rattle.rw_types.specs.LoneMain.{IsLoneMain};
-ghost use Rattle.lowering_table.specs.Modules.{ArePages, low_module};
 ghost use Rattle.rw_program.specs.Linking.{program_of};
-ghost use Rattle.rwc.specs.Compiled.{TextLeads, ModuleLeads, CheckedLeads, BinaryLeads};
-ghost use Rattle.rwc.specs.Stops.{IsRefusal, IsStep, IfStopped};
-ghost use Rattle.words.specs.Files.{is_source_file, module_name_of};
+ghost use Rattle.lowering_table.specs.Modules.{ArePages};
+ghost use Rattle.wasm_grammar.specs.Nesting.{ModuleNestsAtMost, nesting_limit};
+ghost use Rattle.words.specs.Commands.{spelled_source};
+ghost use Rattle.words.specs.Words.{IsSourceNamed};
+ghost use Rattle.rwc_reports.specs.Binaries.{ProgramLowers, ModuleEncodes};
+ghost use Rattle.rwc_reports.specs.Reports.{BinaryLeads};
+ghost use Rattle.rwc_reports.specs.Sources.{TextReads, ModuleChecks};
+ghost use Rattle.rwc.specs.Kept.{LoadsTo};
+ghost use Rattle.rwc.specs.Stops.{IsStep, bytes_of};
 
 use crate::ending::Stop;
+use crate::load::load_file;
 use crate::{lines, refusals};
 use lower::{LowerError, Pages, lower};
 use rw_check::{CheckError, Checked, check};
+use rw_io::Shelf;
 use rw_link::{LinkError, link};
 use rw_program::Linked;
 use rw_text::{TextFault, read};
@@ -20,22 +25,43 @@ use rw_types::{List, Module, Name};
 use std::alloc::{AllocError, Global};
 use wasm_ast::WModule;
 use wasm_encode::{EncodeError, encode};
-use words::module_name;
+use words::{SourceFile, SourceKind};
 
-/// The binary of a file's text, for so many pages.
-pub fn binary_of_text(
+/// The binary of a source file, for so many pages.
+pub fn compile<S: Shelf>(
     alloc: Global,
     pages: &Pages,
-    file: &str,
-    bytes: &[u8],
+    source: &SourceFile<'_>,
+    shelf: &mut S,
 ) -> Result<Vec<u8>, Stop>
-    requires source { is_source_file file.now ≡ true }
+    requires source { IsSourceNamed source.now.file.now (spelled_source source.now) }
     requires pages { ArePages pages.now }
-    ensures leads { IsStep (TextLeads pages.now file.now bytes.now) result }
-    ensures causes { IfStopped result (λ status _. IsRefusal status) (λ _. ⊥) (λ _. ⊥) }
+    ensures { LoadsTo bytes_of (λ told. BinaryLeads told (spelled_source source.now ∷ []) pages.now) (1 ∷ 3 ∷ 11 ∷ []) source.now.file.now
+        (S.state shelf.old) (S.state shelf.new) result }
+{
+    let text = load_file(alloc, shelf, source.file)?;
+    let module = read_source(alloc, source, &text)?;
+    let checked = check_module(alloc, source.file, module)?;
+    let program = link_alone(alloc, source, checked)?;
+    let lowered = lower_program(alloc, pages, &program)?;
+    encode_module(alloc, &lowered)
+}
+
+// The module that the text of a source spells.
+fn read_source(alloc: Global, source: &SourceFile<'_>, bytes: &[u8]) -> Result<Module, Stop>
+    ensures { IsStep (λ m. m) (TextReads source.now.kind source.now.file.now bytes.now) result }
+{
+    match source.kind {
+        SourceKind::Rich => read_rich(alloc, source.file, bytes),
+    }
+}
+
+// The module that a Rich text spells.
+fn read_rich(alloc: Global, file: &str, bytes: &[u8]) -> Result<Module, Stop>
+    ensures { IsStep (λ m. m) (TextReads SourceKind.Rich file.now bytes.now) result }
 {
     match read(alloc, bytes) {
-        Ok(module) => binary_of_module(alloc, pages, file, module),
+        Ok(module) => Ok(module),
         Err(error) => match error.fault {
             TextFault::NotYetBuilt => {
                 let line = lines::text(alloc, file, error.line, error.column, "NotYetBuilt");
@@ -46,20 +72,13 @@ pub fn binary_of_text(
     }
 }
 
-// The binary of a module.
-fn binary_of_module(
-    alloc: Global,
-    pages: &Pages,
-    file: &str,
-    module: Module,
-) -> Result<Vec<u8>, Stop>
-    requires source { is_source_file file.now ≡ true }
-    requires pages { ArePages pages.now }
-    ensures leads { IsStep (ModuleLeads pages.now file.now «module») result }
-    ensures causes { IfStopped result (λ status _. IsRefusal status) (λ _. ⊥) (λ _. ⊥) }
+// A module that is well typed.
+fn check_module(alloc: Global, file: &str, module: Module) -> Result<Checked, Stop>
+    requires { IsLoneMain «module» }
+    ensures { IsStep (λ checked. checked) (ModuleChecks file.now «module») result }
 {
     match check(alloc, module) {
-        Ok(checked) => binary_of_checked(alloc, pages, file, checked),
+        Ok(checked) => Ok(checked),
         Err(CheckError::Refused { place, rule, .. }) => Err(Stop::refused(
             1,
             refusals::refused(alloc, file, &place, rule),
@@ -68,30 +87,16 @@ fn binary_of_module(
     }
 }
 
-// The binary of a checked module, which is linked alone.
-fn binary_of_checked(
-    alloc: Global,
-    pages: &Pages,
-    file: &str,
-    checked: Checked,
-) -> Result<Vec<u8>, Stop>
-    requires source { is_source_file file.now ≡ true }
-    requires pages { ArePages pages.now }
-    ensures leads { IsStep (CheckedLeads pages.now checked) result }
-    ensures causes { IfStopped result (λ status _. IsRefusal status) (λ _. ⊥) (λ _. ⊥) }
-{
-    match link_alone(alloc, file, checked) {
-        Ok(program) => binary_of_program(alloc, pages, &program),
-        Err(_) => Err(Stop::Memory),
-    }
-}
-
 // The program of one file.
-fn link_alone(alloc: Global, file: &str, checked: Checked) -> Result<Linked, AllocError>
-    requires source { is_source_file file.now ≡ true }
+fn link_alone(
+    alloc: Global,
+    source: &SourceFile<'_>,
+    checked: Checked,
+) -> Result<Linked, AllocError>
+    requires { IsSourceNamed source.now.file.now (spelled_source source.now) }
     ensures { IfOk result (λ program. program_of checked ≡ Some program) }
 {
-    let name = name_of(alloc, file)?;
+    let name = name_of(alloc, source)?;
     let mut files = Vec::new(alloc);
     files.push((name, checked))?;
     match link(alloc, files) {
@@ -101,38 +106,33 @@ fn link_alone(alloc: Global, file: &str, checked: Checked) -> Result<Linked, All
     }
 }
 
-// The module's name of a source file.
-fn name_of(alloc: Global, file: &str) -> Result<Name, AllocError>
-    requires source { is_source_file file.now ≡ true }
-    ensures { IfOk result (λ name. module_name_of file.now ≡ Some name) }
+// The name of a source file's module.
+fn name_of(alloc: Global, source: &SourceFile<'_>) -> Result<Name, AllocError>
+    requires { IsSourceNamed source.now.file.now (spelled_source source.now) }
+    ensures { IfOk result (λ name. name ≡ source.now.name.now) }
 {
-    let Some(bytes) = module_name(file) else {
-        unreachable!()
-    };
-    match Name::new(List::from_slice(alloc, bytes)?) {
+    match Name::new(List::from_slice(alloc, source.name)?) {
         Some(name) => Ok(name),
         None => unreachable!(),
     }
 }
 
-// The binary of a linked program.
-fn binary_of_program(alloc: Global, pages: &Pages, program: &Linked) -> Result<Vec<u8>, Stop>
+// The lowered module of a program.
+fn lower_program(alloc: Global, pages: &Pages, program: &Linked) -> Result<WModule, Stop>
     requires { ArePages pages.now }
-    ensures leads { IsStep (BinaryLeads (low_module program.now pages.now)) result }
-    ensures causes { IfStopped result (λ status _. IsRefusal status) (λ _. ⊥) (λ _. ⊥) }
+    ensures lowers { IsStep (λ m. m) (ProgramLowers pages.now program.now) result }
+    ensures nests { IfOk result (ModuleNestsAtMost nesting_limit) }
 {
     match lower(alloc, program, pages) {
-        Ok(lowered) => binary_of_lowered(alloc, &lowered),
+        Ok(lowered) => Ok(lowered),
         Err(LowerError::Memory) => Err(Stop::Memory),
     }
 }
 
-// The canonical bytes of a WebAssembly module.
-fn binary_of_lowered(alloc: Global, lowered: &WModule) -> Result<Vec<u8>, Stop>
-    requires nests { ModuleNestsAtMost nesting_limit lowered.now }
-    requires profile { IsInProfile lowered.now }
-    ensures leads { IsStep (BinaryLeads lowered.now) result }
-    ensures causes { IfStopped result (λ status _. IsRefusal status) (λ _. ⊥) (λ _. ⊥) }
+// The canonical bytes of a module.
+fn encode_module(alloc: Global, lowered: &WModule) -> Result<Vec<u8>, Stop>
+    requires { ModuleNestsAtMost nesting_limit lowered.now }
+    ensures { IsStep bytes_of (ModuleEncodes lowered.now) result }
 {
     match encode(alloc, lowered) {
         Ok(bytes) => Ok(bytes),

@@ -1,17 +1,15 @@
 // The command `dump`: a binary is decoded, and a line is put for each of its counts.
-ghost use Rattle.std.specs.Prelude.{◌≡◌, ◌≢◌, ◌≤◌, ◌⊎◌, ◌↔◌, ◌^◌, List, length, map, string_bytes, Bool, IsTrue, IfOk, Some};
-ghost use Rattle.rw_io.specs.Counts.{Rose};
-ghost use Rattle.rw_io.specs.Files.{NamedFile};
-ghost use Rattle.rw_io.specs.States.{ShelfState};
-ghost use Rattle.wasm_grammar.specs.CanonicalModules.{module_bytes};
+ghost use Rattle.std.specs.Prelude.{◌≡◌, ◌≢◌, ◌≤◌, List, [], ◌∷◌, length, map, string_bytes, IfOk, Ok};
 ghost use Rattle.wasm_grammar.specs.Nesting.{ModuleNestsAtMost, nesting_limit};
 ghost use Rattle.wasm_items.specs.Residuals.{no_memory};
-ghost use Rattle.rwc.specs.Acts.{seen_of};
-ghost use Rattle.rwc.specs.Dumps.{BytesReport, dump_lines, lines_job, fault_name, malformed};
-ghost use Rattle.rwc.specs.Endings.{Keeps, WriteRose};
-ghost use Rattle.rwc.specs.Jobs.{max_file_length, refusal_job};
-ghost use Rattle.rwc.specs.Reports.{DumpReports};
-ghost use Rattle.rwc.specs.Stops.{IsRefusal, IfStop, IfStopped, status_of, line_of};
+ghost use Rattle.words.specs.Words.{dump as dump_of};
+ghost use Rattle.rwc_reports.specs.Binaries.{BinaryDecodes, fault_name, malformed_refusal};
+ghost use Rattle.rwc_reports.specs.Dumps.{module_lines};
+ghost use Rattle.rwc_reports.specs.Reports.{LinesLead};
+ghost use Rattle.rwc_reports.specs.Sources.{max_file_length};
+ghost use Rattle.rwc_reports.specs.Steps.{Onward};
+ghost use Rattle.rwc.specs.Kept.{LoadsTo, KeepsCommand};
+ghost use Rattle.rwc.specs.Stops.{IfStop, IsStep, texts_of};
 
 use crate::ending::{Done, Stop};
 use crate::lines;
@@ -31,29 +29,20 @@ pub fn dump<S: Shelf, O: Sink>(
     shelf: &mut S,
     out: &mut O,
 ) -> Result<Done, Stop>
-    ensures keeps { (files : List NamedFile) → (S.state shelf.old).holding.files ≡ Some files
-        → Keeps (DumpReports file.now files) (seen_of (S.state shelf.old) (O.state out.old))
-        (seen_of (S.state shelf.new) (O.state out.new)) (status_of result) (line_of result) }
-    ensures causes { IfStopped result (λ status _. IsRefusal status)
-        (λ _. Rose (S.state shelf.old).load_faults (S.state shelf.new).load_faults)
-        (λ _. WriteRose (S.state shelf.old) (S.state shelf.new) (O.state out.old) (O.state out.new)) }
+    ensures { KeepsCommand (dump_of file.now) (S.state shelf.old) (S.state shelf.new) (O.state out.old) (O.state out.new) result }
 {
-    match load_file(alloc, shelf, file) {
-        Ok(bytes) => dump_bytes(alloc, file, &bytes, out),
+    match lines_of_file(alloc, file, shelf) {
+        Ok(lines) => put_lines(alloc, out, &lines),
         Err(stop) => Err(stop),
     }
 }
 
-// Puts the counts of the module that bytes spell.
-fn dump_bytes<O: Sink>(alloc: Global, file: &str, bytes: &[u8], out: &mut O) -> Result<Done, Stop>
-    requires { length bytes.now ≤ max_file_length }
-    ensures keeps { (shelf : ShelfState) → Keeps (BytesReport file.now bytes.now) (seen_of shelf (O.state out.old))
-        (seen_of shelf (O.state out.new)) (status_of result) (line_of result) }
-    ensures causes { IfStopped result (λ status _. status ≡ 9) (λ _. ⊥)
-        (λ _. Rose (O.state out.old).faults (O.state out.new).faults ⊎ Rose (O.state out.old).stalls (O.state out.new).stalls) }
+// The lines of the module that a file spells.
+fn lines_of_file<S: Shelf>(alloc: Global, file: &str, shelf: &mut S) -> Result<Vec<String>, Stop>
+    ensures { LoadsTo texts_of (λ told. LinesLead told file.now) (3 ∷ 9 ∷ []) file.now (S.state shelf.old) (S.state shelf.new) result }
 {
-    match lines_of(alloc, file, bytes) {
-        Ok(lines) => put_lines(alloc, out, &lines),
+    match load_file(alloc, shelf, file) {
+        Ok(bytes) => lines_of(alloc, file, &bytes),
         Err(stop) => Err(stop),
     }
 }
@@ -61,9 +50,7 @@ fn dump_bytes<O: Sink>(alloc: Global, file: &str, bytes: &[u8], out: &mut O) -> 
 // The lines of the module that bytes spell.
 fn lines_of(alloc: Global, file: &str, bytes: &[u8]) -> Result<Vec<String>, Stop>
     requires { length bytes.now ≤ max_file_length }
-    ensures report { IfOk result (λ lines. BytesReport file.now bytes.now (lines_job (map string_bytes lines.items))) }
-    ensures refused { IfStopped result (λ status line. (status ≡ 9) × BytesReport file.now bytes.now (refusal_job (record { status = status; line = line })))
-        (λ _. ⊥) (λ _. ⊥) }
+    ensures { IsStep texts_of (Onward (BinaryDecodes file.now bytes.now) (λ m r. r ≡ Ok (module_lines bytes.now m))) result }
 {
     match decode(alloc, bytes) {
         Ok(decoded) => match lines_of_module(alloc, bytes, decoded.module()) {
@@ -78,8 +65,7 @@ fn lines_of(alloc: Global, file: &str, bytes: &[u8]) -> Result<Vec<String>, Stop
 fn lines_of_module(alloc: Global, bytes: &[u8], m: &WModule) -> Result<Vec<String>, AllocError>
     requires short { length bytes.now ≤ max_file_length }
     requires nests { ModuleNestsAtMost nesting_limit m.now }
-    ensures { IfOk result (λ lines. (canonical : Bool) × (IsTrue canonical ↔ (bytes.now ≡ module_bytes m.now))
-        × (map string_bytes lines.items ≡ dump_lines m.now canonical)) }
+    ensures { IfOk result (λ lines. map string_bytes lines.items ≡ module_lines bytes.now m.now) }
 {
     let canonical = is_canonical(alloc, bytes, m)?;
     lines::dump(alloc, m, canonical)
@@ -87,7 +73,7 @@ fn lines_of_module(alloc: Global, bytes: &[u8], m: &WModule) -> Result<Vec<Strin
 
 // The refusal of a binary that has this fault.
 fn refuse(alloc: Global, file: &str, error: DecodeError) -> Stop
-    ensures { IfStop result (λ status line. (error ≢ no_memory) × (status ≡ 9) × (line ≡ (malformed file.now error).line)) (λ _. ⊥) (λ _. ⊥) }
+    ensures { IfStop result (λ status line. (error ≢ no_memory) × (status ≡ 9) × (line ≡ (malformed_refusal file.now error).line)) (λ _. ⊥) (λ _. ⊥) }
 {
     if error.fault == DecodeFault::Memory {
         return Stop::Memory;

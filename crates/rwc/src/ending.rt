@@ -32,6 +32,16 @@ pub enum Stop {
     Memory,
 }
 
+impl From<AllocError> for Stop {
+    ghost use Rattle.rwc.specs.declared.ending.Stop.TheVariants.{Memory};
+
+    ghost from_gives = { λ _ e. e ≡ Memory };
+
+    fn from(_error: AllocError) -> Stop {
+        Stop::Memory
+    }
+}
+
 impl Done {
     ghost use Rattle.rwc.specs.Stops.{done_status};
 

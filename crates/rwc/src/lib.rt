@@ -1,11 +1,11 @@
-//! The tool: its commands over a shelf of files and two sinks, and how each of them ends.
+//! The tool: its commands over a shelf of files and two sinks, and how each of them ends. The definitions of what a command
+//! does and says, and their laws, are those of `rwc_reports`; the contract is that of `rwc`.
 #![tactic(auto)]
 
 mod build;
 mod compile;
 mod dump;
 mod ending;
-mod laws;
 mod lines;
 mod load;
 mod perform;
@@ -13,5 +13,4 @@ mod refusals;
 mod top;
 
 pub use ending::Status;
-pub use laws::one_report;
 pub use top::rwc;

@@ -1,7 +1,7 @@
 // The lines that the tool prints.
 ghost use Rattle.std.specs.Prelude.{◌≡◌, map, string_bytes, IfOk};
-ghost use Rattle.rwc.specs.Lines.{missing_line, too_long_line, text_line, wrote_line, read_fault_line, write_fault_line, too_many_section_line, malformed_line, count_line, answer_line, yes_or_no};
-ghost use Rattle.rwc.specs.Dumps.{dump_lines};
+ghost use Rattle.rwc_reports.specs.Lines.{missing_line, too_long_line, text_line, wrote_line, read_fault_line, write_fault_line, too_many_section_line, malformed_line, count_line, answer_line, yes_or_no};
+ghost use Rattle.rwc_reports.specs.Dumps.{dump_lines};
 
 use itoa::Buffer;
 use std::alloc::{AllocError, Global};

@@ -1,12 +1,12 @@
 // The acts of a job, each done whole or stopped at a failure, a stall or want of memory.
-ghost use Rattle.std.specs.Prelude.{◌≡◌, ◌≢◌, ◌⊎◌, true, map, string_bytes};
+ghost use Rattle.std.specs.Prelude.{◌≡◌, ◌≢◌, ◌⊎◌, true, map, string_bytes, IfOk};
 ghost use Rattle.rw_io.specs.declared.whole.WriteStop.TheVariants.{Memory as NoMemory};
 ghost use Rattle.rw_io.specs.States.{ShelfState, SinkState, NoShelfCountFell, NoSinkCountFell};
 ghost use Rattle.rw_io.specs.Counts.{Rose};
-ghost use Rattle.rwc.specs.Acts.{create, append, put, seen_of};
-ghost use Rattle.rwc.specs.Dumps.{lines_job};
-ghost use Rattle.rwc.specs.Endings.{Follows};
-ghost use Rattle.rwc.specs.Lines.{write_fault_line};
+ghost use Rattle.rwc_reports.specs.Acts.{create, append, put, outside_of};
+ghost use Rattle.rwc_reports.specs.Jobs.{lines_job};
+ghost use Rattle.rwc_reports.specs.Endings.{CarriesOut};
+ghost use Rattle.rwc_reports.specs.Lines.{write_fault_line};
 ghost use Rattle.rwc.specs.Stops.{IfStop, IfStopped, Performs, status_of, line_of};
 
 use crate::ending::{Done, Stop};
@@ -28,7 +28,7 @@ fn not_whole(alloc: Global, unwritten: Unwritten) -> Stop
 
 /// Begins a file under a name.
 pub fn create_file<S: Shelf>(alloc: Global, shelf: &mut S, name: &str) -> Result<(), Stop>
-    ensures performs { (out : SinkState) → Performs (create name.now) (seen_of (S.state shelf.old) out) (seen_of (S.state shelf.new) out) result }
+    ensures performs { (out : SinkState) → Performs (create name.now) (outside_of (S.state shelf.old) out) (outside_of (S.state shelf.new) out) result }
     ensures cause { IfStopped result (λ _ _. ⊥) (λ _. ⊥) (λ _. Rose (S.state shelf.old).put_faults (S.state shelf.new).put_faults) }
     ensures counts { NoShelfCountFell (S.state shelf.old) (S.state shelf.new) }
 {
@@ -42,7 +42,7 @@ pub fn create_file<S: Shelf>(alloc: Global, shelf: &mut S, name: &str) -> Result
 /// Appends a piece whole to what was created.
 pub fn append_piece<S: Shelf>(alloc: Global, shelf: &mut S, piece: &[u8]) -> Result<(), Stop>
     requires { (S.state shelf.old).holding.has_created ≡ true }
-    ensures performs { (out : SinkState) → Performs (append piece.now) (seen_of (S.state shelf.old) out) (seen_of (S.state shelf.new) out) result }
+    ensures performs { (out : SinkState) → Performs (append piece.now) (outside_of (S.state shelf.old) out) (outside_of (S.state shelf.new) out) result }
     ensures cause { IfStopped result (λ _ _. ⊥) (λ _. ⊥) (λ _. Rose (S.state shelf.old).put_faults (S.state shelf.new).put_faults
         ⊎ Rose (S.state shelf.old).stalls (S.state shelf.new).stalls) }
     ensures counts { NoShelfCountFell (S.state shelf.old) (S.state shelf.new) }
@@ -55,7 +55,7 @@ pub fn append_piece<S: Shelf>(alloc: Global, shelf: &mut S, piece: &[u8]) -> Res
 
 /// Puts a piece whole.
 pub fn put_piece<O: Sink>(alloc: Global, out: &mut O, piece: &[u8]) -> Result<(), Stop>
-    ensures performs { (shelf : ShelfState) → Performs (put piece.now) (seen_of shelf (O.state out.old)) (seen_of shelf (O.state out.new)) result }
+    ensures performs { (shelf : ShelfState) → Performs (put piece.now) (outside_of shelf (O.state out.old)) (outside_of shelf (O.state out.new)) result }
     ensures cause { IfStopped result (λ _ _. ⊥) (λ _. ⊥) (λ _. Rose (O.state out.old).faults (O.state out.new).faults
         ⊎ Rose (O.state out.old).stalls (O.state out.new).stalls) }
     ensures counts { NoSinkCountFell (O.state out.old) (O.state out.new) }
@@ -68,8 +68,9 @@ pub fn put_piece<O: Sink>(alloc: Global, out: &mut O, piece: &[u8]) -> Result<()
 
 /// Puts lines one after another, each a piece of its own.
 pub fn put_lines<O: Sink>(alloc: Global, out: &mut O, lines: &[String]) -> Result<Done, Stop>
-    ensures follows { (shelf : ShelfState) → Follows (lines_job (map string_bytes lines.now)) (seen_of shelf (O.state out.old))
-        (seen_of shelf (O.state out.new)) (status_of result) (line_of result) }
+    ensures carries_out { (shelf : ShelfState) → CarriesOut (lines_job (map string_bytes lines.now) 0) (outside_of shelf (O.state out.old))
+        (outside_of shelf (O.state out.new)) (status_of result) (line_of result) }
+    ensures finished { IfOk result (λ done. done ≡ Done.Finished) }
     ensures causes { IfStopped result (λ _ _. ⊥) (λ _. ⊥) (λ _. Rose (O.state out.old).faults (O.state out.new).faults
         ⊎ Rose (O.state out.old).stalls (O.state out.new).stalls) }
 {

@@ -1,22 +1,30 @@
 // How a refused module is told.
 ghost use Rattle.std.specs.Prelude.{◌≡◌, string_bytes, IfOk};
-ghost use Rattle.rwc.specs.Refusals.{rule_name, path_text, place_text, refused_at, refused_line};
+ghost use Rattle.std.specs.Prelude.{codes};
+ghost use Rattle.rwc_reports.specs.Refusals.{rule_name, path_text, place_text, refused_line};
 
 use rw_check::{Place, Rule};
 use std::alloc::{AllocError, Global};
 
 /// The line that names the first violated rule of a module and its place, where no type is told.
 pub fn refused(alloc: Global, file: &str, place: &Place, rule: Rule) -> Result<String, AllocError>
-    ensures { IfOk result (λ line. string_bytes line ≡ refused_line file.now place.now rule) }
+    ensures { IfOk result (λ line. string_bytes line ≡ refused_line file.now (place_text place.now) (rule_name rule) (codes "-") (codes "-")) }
 {
     let at = place_of(alloc, place)?;
-    line_of(alloc, file, at.as_str(), name_of(rule))
+    line_of(alloc, file, at.as_str(), name_of(rule), "-", "-")
 }
 
-fn line_of(alloc: Global, file: &str, place: &str, rule: &str) -> Result<String, AllocError>
-    ensures { IfOk result (λ line. string_bytes line ≡ refused_at file.now place.now rule.now) }
+fn line_of(
+    alloc: Global,
+    file: &str,
+    place: &str,
+    rule: &str,
+    found: &str,
+    expected: &str,
+) -> Result<String, AllocError>
+    ensures { IfOk result (λ line. string_bytes line ≡ refused_line file.now place.now rule.now found.now expected.now) }
 {
-    format!(in alloc; "refused {file} {place} {rule} found - expected -\n")
+    format!(in alloc; "refused {file} {place} {rule} found {found} expected {expected}\n")
 }
 
 /// The name of a rule.

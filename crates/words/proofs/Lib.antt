@@ -5,3 +5,4 @@ pub mod Decimals
 pub mod Splitting
 pub mod Spelling
 pub mod OneCommand
+pub mod SomeCommand

@@ -6,19 +6,19 @@ use Rattle.std.specs.declared.option.Option.{Option}
 use Rattle.std.specs.declared.option.Option.TheVariants.{None, Some}
 use Rattle.std.specs.Option.{option_map}
 use Rattle.words.specs.Found.{Finds}
-use Rattle.words.specs.Files.{is_plain_name, is_source_file}
-use Rattle.words.specs.Words.{Setting, words_of, values_for, command_word, files_of, HaveFlags, GivesNumber, GivesName, Command, build, dump, SpellsCommand}
+use Rattle.words.specs.Files.{is_plain_name}
+use Rattle.words.specs.Words.{Setting, words_of, values_for, command_word, files_of, HaveFlags, GivesNumber, GivesName, Command, build, dump, Source, IsSourceNamed, SpellsCommand}
 use Rattle.words.specs.Reading.{settings_of, files_after}
 use Rattle.words.proofs.Splitting.{splits, joined}
 
--- the words after `build` give these numbers, this name and this file
-pub record GivesBuild (rest : List (List ℕ)) (lin unr : ℕ) (name file : List ℕ) : Type 0 where
+-- the words after `build` give these numbers, this name and this source
+pub record GivesBuild (rest : List (List ℕ)) (lin unr : ℕ) (name : List ℕ) (source : Source) : Type 0 where
   pub flags : HaveFlags (codes "-o" ∷ codes "--lin" ∷ codes "--unr" ∷ []) (settings_of rest)
   pub lin_given : GivesNumber 1 512 16 (values_for (codes "--lin") (settings_of rest)) lin
   pub unr_given : GivesNumber 0 512 16 (values_for (codes "--unr") (settings_of rest)) unr
   pub name_given : GivesName (values_for (codes "-o") (settings_of rest)) name
-  pub file_is : files_after rest ≡ file ∷ []
-  pub source : is_source_file file ≡ true
+  pub file_is : files_after rest ≡ source.file ∷ []
+  pub of_source : IsSourceNamed source.file source
 
 -- the words after `dump` are this file
 pub record GivesDump (rest : List (List ℕ)) (file : List ℕ) : Type 0 where
@@ -36,20 +36,20 @@ pub first_is : (word : List ℕ) (rest : List (List ℕ)) (command : Command) �
 first_is word rest command s = head_is word (command_word command) rest (words_of s.settings ++ files_of command) s.are
 
 -- `build` and such words spell the command
-pub spells_build : (rest : List (List ℕ)) (lin unr : ℕ) (name file : List ℕ) → GivesBuild rest lin unr name file → SpellsCommand (codes "build" ∷ rest) (build lin unr name file)
-spells_build rest lin unr name file g = record {
+pub spells_build : (rest : List (List ℕ)) (lin unr : ℕ) (name : List ℕ) (source : Source) → GivesBuild rest lin unr name source → SpellsCommand (codes "build" ∷ rest) (build lin unr name source)
+spells_build rest lin unr name source g = record {
   settings = settings_of rest;
   are = ap (λ (words : List (List ℕ)). codes "build" ∷ words) (sym (joined rest) ∙ ap (λ (files : List (List ℕ)). words_of (settings_of rest) ++ files) g.file_is);
   flags = g.flags;
   given = (g.lin_given, g.unr_given, g.name_given);
-  files = g.source;
+  files = g.of_source;
 }
 
 -- and no others do
-pub build_spelled : (word : List ℕ) (rest : List (List ℕ)) (lin unr : ℕ) (name file : List ℕ) → SpellsCommand (word ∷ rest) (build lin unr name file) → GivesBuild rest lin unr name file
-build_spelled word rest lin unr name file s =
-    let same = tail_is word (codes "build") rest (words_of s.settings ++ (file ∷ [])) s.are in
-    let split = splits (codes "-o" ∷ codes "--lin" ∷ codes "--unr" ∷ []) s.settings (file ∷ []) refl s.flags (record { options = refl; after = refl }) in
+pub build_spelled : (word : List ℕ) (rest : List (List ℕ)) (lin unr : ℕ) (name : List ℕ) (source : Source) → SpellsCommand (word ∷ rest) (build lin unr name source) → GivesBuild rest lin unr name source
+build_spelled word rest lin unr name source s =
+    let same = tail_is word (codes "build") rest (words_of s.settings ++ (source.file ∷ [])) s.are in
+    let split = splits (codes "-o" ∷ codes "--lin" ∷ codes "--unr" ∷ []) s.settings (source.file ∷ []) refl s.flags (record { options = refl; after = refl }) in
     let options : settings_of rest ≡ s.settings = ap settings_of same ∙ split.options in
     record {
       flags = subst (λ (o : List Setting). HaveFlags (codes "-o" ∷ codes "--lin" ∷ codes "--unr" ∷ []) o) (sym options) s.flags;
@@ -57,7 +57,7 @@ build_spelled word rest lin unr name file s =
       unr_given = subst (λ (o : List Setting). GivesNumber 0 512 16 (values_for (codes "--unr") o) unr) (sym options) s.given.1;
       name_given = subst (λ (o : List Setting). GivesName (values_for (codes "-o") o) name) (sym options) s.given.2;
       file_is = ap files_after same ∙ split.after;
-      source = s.files;
+      of_source = s.files;
     }
 
 -- a command of no options is given none
@@ -83,8 +83,8 @@ dump_spelled word rest file s =
     }
 
 -- where nothing gives a build, `build` and these words spell nothing
-pub no_build : (rest : List (List ℕ)) → ((lin unr : ℕ) (name file : List ℕ) → GivesBuild rest lin unr name file → ⊥) → (command : Command) → SpellsCommand (codes "build" ∷ rest) command → ⊥
-no_build rest none (build lin unr name file) s = none lin unr name file (build_spelled (codes "build") rest lin unr name file s)
+pub no_build : (rest : List (List ℕ)) → ((lin unr : ℕ) (name : List ℕ) (source : Source) → GivesBuild rest lin unr name source → ⊥) → (command : Command) → SpellsCommand (codes "build" ∷ rest) command → ⊥
+no_build rest none (build lin unr name source) s = none lin unr name source (build_spelled (codes "build") rest lin unr name source s)
 no_build rest none (dump file) s = let e : codes "build" ≡ codes "dump" = first_is (codes "build") rest (dump file) s in absurd cc
 
 -- where nothing is so, nothing is found
@@ -94,7 +94,7 @@ found_none P f None e none = none
 
 -- where nothing gives a dump, `dump` and these words spell nothing
 pub no_dump : (rest : List (List ℕ)) → ((file : List ℕ) → GivesDump rest file → ⊥) → (command : Command) → SpellsCommand (codes "dump" ∷ rest) command → ⊥
-no_dump rest none (build lin unr name file) s = let e : codes "dump" ≡ codes "build" = first_is (codes "dump") rest (build lin unr name file) s in absurd cc
+no_dump rest none (build lin unr name source) s = let e : codes "dump" ≡ codes "build" = first_is (codes "dump") rest (build lin unr name source) s in absurd cc
 no_dump rest none (dump file) s = none file (dump_spelled (codes "dump") rest file s)
 
 -- a slice's pattern with one item at its front
@@ -108,7 +108,7 @@ front_is f d xs front le is = front_one f d xs le ∙ ap (λ z. z ∷ map f (tak
 
 -- words that begin otherwise spell nothing
 pub no_command : (word : List ℕ) (rest : List (List ℕ)) (command : Command) → (word ≡ codes "build" → ⊥) → (word ≡ codes "dump" → ⊥) → SpellsCommand (word ∷ rest) command → ⊥
-no_command word rest (build lin unr name file) not_build not_dump s = not_build (first_is word rest (build lin unr name file) s)
+no_command word rest (build lin unr name source) not_build not_dump s = not_build (first_is word rest (build lin unr name source) s)
 no_command word rest (dump file) not_build not_dump s = not_dump (first_is word rest (dump file) s)
 
 -- no words spell nothing

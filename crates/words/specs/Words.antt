@@ -2,8 +2,13 @@
 -- two words, then files; this project's own. A further command is a case more of each definition below `Command`.
 use Rattle.std.specs.Prelude.{◌≡◌, ℕ, ◌≤◌, List, [], ◌∷◌, ◌++◌, true, if◌then◌else◌, codes, decimal}
 use Rattle.std.specs.List.{list_any, list_all}
+use Rattle.std.specs.declared.option.Option.{Option}
+use Rattle.std.specs.declared.option.Option.TheVariants.{Some}
 use Rattle.std.specs.Str.{bytes_eq}
-use Rattle.words.specs.Files.{is_plain_name, is_source_file}
+use Rattle.words.specs.declared.SourceKind.{SourceKind}
+use Rattle.words.specs.declared.SourceKind.TheVariants.{Rich}
+use Rattle.words.specs.Files.{is_plain_name, is_source_file, module_name_of}
+use Rattle.words.specs.Found.{Finds}
 
 -- an option as it is given: its flag and its value, a word each
 pub record Setting : Type 0 where
@@ -41,26 +46,39 @@ GivesNumber least greatest default (text ∷ other ∷ more) n = ⊥
 abbrev pub GivesName : List (List ℕ) → List ℕ → Type 0
 GivesName values name = (values ≡ name ∷ []) × (is_plain_name name ≡ true)
 
+-- a source file: the word that names it, the name of its module, and its language
+pub record Source : Type 0 where
+  pub file : List ℕ
+  pub name : List ℕ
+  pub kind : SourceKind
+
+-- it is the source file of this name
+pub record IsSourceNamed (file : List ℕ) (source : Source) : Type 0 where
+  pub same : source.file ≡ file
+  pub plain : is_source_file file ≡ true
+  pub named : module_name_of file ≡ Some source.name
+  pub language : source.kind ≡ Rich
+
 -- one command with its options and files
 pub data Command : Type 0 where
   -- a binary under a name of a file, with so many pages of the linear part and of the unrestricted region
-  build : (lin unr : ℕ) (name file : List ℕ) → Command
+  build : (lin unr : ℕ) (name : List ℕ) (source : Source) → Command
   -- the counts of a binary
   dump : (file : List ℕ) → Command
 
 -- the first word
 abbrev pub command_word : Command → List ℕ
-command_word (build lin unr name file) = codes "build"
+command_word (build lin unr name source) = codes "build"
 command_word (dump file) = codes "dump"
 
 -- the options that a command may have
 abbrev pub flags_of : Command → List (List ℕ)
-flags_of (build lin unr name file) = codes "-o" ∷ codes "--lin" ∷ codes "--unr" ∷ []
+flags_of (build lin unr name source) = codes "-o" ∷ codes "--lin" ∷ codes "--unr" ∷ []
 flags_of (dump file) = []
 
 -- what its options give
 abbrev pub HasSettings : Command → List Setting → Type 0
-HasSettings (build lin unr name file) settings =
+HasSettings (build lin unr name source) settings =
     GivesNumber 1 512 16 (values_for (codes "--lin") settings) lin
     × GivesNumber 0 512 16 (values_for (codes "--unr") settings) unr
     × GivesName (values_for (codes "-o") settings) name
@@ -68,12 +86,12 @@ HasSettings (dump file) settings = Unit {0}
 
 -- the words after the options
 abbrev pub files_of : Command → List (List ℕ)
-files_of (build lin unr name file) = file ∷ []
+files_of (build lin unr name source) = source.file ∷ []
 files_of (dump file) = file ∷ []
 
 -- which files a command takes
 abbrev pub HasFiles : Command → Type 0
-HasFiles (build lin unr name file) = is_source_file file ≡ true
+HasFiles (build lin unr name source) = IsSourceNamed source.file source
 HasFiles (dump file) = is_plain_name file ≡ true
 
 -- words of the plain form spell a command
@@ -87,6 +105,10 @@ pub record SpellsCommand (words : List (List ℕ)) (command : Command) : Type 0 
 -- words spell at most one command
 abbrev pub OneCommand : Type 0
 OneCommand = (words : List (List ℕ)) (a b : Command) → SpellsCommand words a → SpellsCommand words b → a ≡ b
+
+-- words spell a command, or they spell none
+abbrev pub CommandOrNone : Type 0
+CommandOrNone = (words : List (List ℕ)) → (command : Option Command) × Finds (SpellsCommand words) command
 
 -- words that are not of the plain form
 abbrev pub SpellNothing : List (List ℕ) → Type 0

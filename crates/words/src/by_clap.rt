@@ -1,4 +1,5 @@
 // The texts of words of the plain form, as `clap` reads them. No clause rests on it.
+use crate::files::source_file;
 use crate::numbers::number;
 use crate::{Build, Command, Dump};
 use clap::{Arg, ArgAction, ArgMatches, Error};
@@ -48,7 +49,7 @@ fn build_of<'a>(matches: &ArgMatches<'a>) -> Option<Command<'a>> {
         lin: pages(matches, "lin", 1)?,
         unr: pages(matches, "unr", 0)?,
         name: matches.get_str("name")?,
-        file: matches.get_str("file")?,
+        source: source_file(matches.get_str("file")?)?,
     }))
 }
 

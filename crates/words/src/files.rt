@@ -1,9 +1,13 @@
 // The names of files: which are plain words, and which are those of sources.
 ghost use Rattle.std.specs.Prelude.{◌≡◌, ◌==◌, ◌<◌, ◌+◌, ◌^◌, length, position, IfSome};
-ghost use Rattle.std.specs.Option.{option_copied};
+ghost use Rattle.std.specs.Option.{option_copied, option_map};
 ghost use Rattle.words.specs.Files.{is_plain_name, is_source_file, is_module_name, after_last_slash, module_name_of};
+ghost use Rattle.words.specs.Found.{Finds};
+ghost use Rattle.words.specs.Words.{IsSourceNamed};
+ghost use Rattle.words.specs.Commands.{spelled_source};
 ghost use Rattle.rw_types.specs.Names.{IsName};
 
+use crate::{SourceFile, SourceKind};
 use rw_types::is_name;
 
 /// Whether a word is a name: it is not empty and does not begin with a dash.
@@ -16,9 +20,24 @@ pub fn is_plain(word: &str) -> bool
     }
 }
 
+/// The source file of this name. `None` where it is not the name of a source.
+pub fn source_file<'a>(file: &'a str) -> Option<SourceFile<'a>>
+    ensures { Finds (IsSourceNamed file.now) (option_map spelled_source result) }
+{
+    if !is_source(file) {
+        return None;
+    }
+    let name = module_name(file)?;
+    Some(SourceFile {
+        file,
+        name,
+        kind: SourceKind::Rich,
+    })
+}
+
 /// Whether a file's name is that of a source: it does not begin with a dash, and its last part is a module's
 /// name and `.rich`.
-pub fn is_source(file: &str) -> bool
+fn is_source(file: &str) -> bool
     ensures { result ≡ is_source_file file.now }
 {
     is_plain(file) && module_name(file).is_some_and(is_module)
@@ -31,7 +50,7 @@ fn is_module(name: &[u8]) -> bool
 }
 
 /// The name of a file's module: the last part of the file's name, without `.rich`.
-pub fn module_name(file: &str) -> Option<&[u8]>
+fn module_name<'a>(file: &'a str) -> Option<&'a [u8]>
     ensures { option_copied result ≡ module_name_of file.now }
 {
     last_part(file.as_bytes()).strip_suffix(b".rich")

@@ -18,8 +18,7 @@ mod tests;
 
 use by_clap::read_by_clap;
 use clap::error::ErrorKind;
-pub use files::module_name;
-pub use laws::{one_command, source_files};
+pub use laws::{a_command_or_none, one_command, source_files};
 use plain::plain_command;
 use std::alloc::{AllocError, Global};
 
@@ -30,14 +29,28 @@ pub enum Command<'a> {
     Dump(Dump<'a>),
 }
 
-/// The command `build`: a binary under `name` of the file `file`, with `lin` pages of the linear part and `unr`
+/// The command `build`: a binary under `name` of the file `source`, with `lin` pages of the linear part and `unr`
 /// pages of the unrestricted region, of 65,536 bytes each; this project's own.
 #[derive(Clone, Copy)]
 pub struct Build<'a> {
     pub lin: u32,
     pub unr: u32,
     pub name: &'a str,
+    pub source: SourceFile<'a>,
+}
+
+/// The language of a source; this project's own.
+#[derive(Clone, Copy, Debug, PartialEq, Eq)]
+pub enum SourceKind {
+    Rich,
+}
+
+/// A source file: the word that names it, the name of its module, and its language; this project's own.
+#[derive(Clone, Copy)]
+pub struct SourceFile<'a> {
     pub file: &'a str,
+    pub name: &'a [u8],
+    pub kind: SourceKind,
 }
 
 /// The command `dump`: the counts of the binary `file`; this project's own.
@@ -70,7 +83,9 @@ fn is_same(read: &Command<'_>, plain: &Command<'_>) -> bool
             read.lin == plain.lin
                 && read.unr == plain.unr
                 && read.name == plain.name
-                && read.file == plain.file
+                && read.source.file == plain.source.file
+                && read.source.name == plain.source.name
+                && read.source.kind == plain.source.kind
         }
         (Command::Dump(read), Command::Dump(plain)) => read.file == plain.file,
         _ => false,

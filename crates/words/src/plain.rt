@@ -5,7 +5,7 @@ ghost use Rattle.words.specs.Words.{SpellsCommand};
 ghost use Rattle.words.specs.Found.{Finds};
 ghost use Rattle.words.specs.Commands.{spelled_command, spelled_build, spelled_dump, HasPages};
 
-use crate::files::{is_plain, is_source};
+use crate::files::{is_plain, source_file};
 use crate::options::{have_flags, name_for, number_for, only_file, only_word};
 use crate::{Build, Command, Dump};
 
@@ -42,14 +42,12 @@ fn plain_build<'a>(rest: &'a [String]) -> Option<Build<'a>>
     let lin = number_for(rest, "--lin", 1, 512, 16)?;
     let unr = number_for(rest, "--unr", 0, 512, 16)?;
     let name = name_for(rest, "-o")?;
-    if !is_source(file) {
-        return None;
-    }
+    let source = source_file(file)?;
     Some(Build {
         lin: lin as u32,
         unr: unr as u32,
         name,
-        file,
+        source,
     })
 }
 

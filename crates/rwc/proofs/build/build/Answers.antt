@@ -1,23 +1,37 @@
-use Rattle.std.proofs.Common.{ℕ, List, refl, ap, sym, subst, Ok}
-use Rattle.rw_io.specs.Files.{content_of}
-use Rattle.rwc.specs.Reports.{ContentLeads, build_job}
-use Rattle.rwc.specs.Stops.{status_of, line_of}
-use Rattle.rw_io.specs.States.{Holding}
-use Rattle.rwc.specs.Acts.{Seen, seen_of}
-use Rattle.rwc.specs.Endings.{Follows, follows}
-use Rattle.rwc.proofs.Endings.{build_stopped}
+use Rattle.std.proofs.Common.{ℕ, List, [], ◌∷◌, inl, inr, refl, ap, sym, subst}
+use Rattle.rwc.proofs.Endings.{stopped, delivered, finished_zero, write_rose_from}
+use Rattle.rwc.specs.Stops.{status_of, line_of, bytes_of}
+use Rattle.words.specs.Commands.{spelled_source}
+use Rattle.rwc_reports.specs.Acts.{outside_of}
+use Rattle.rwc_reports.specs.Endings.{CarriesOut}
+use Rattle.rwc_reports.specs.Reports.{BinaryLeads, build_job}
+use Rattle.rwc_reports.specs.Steps.{IsOneOf}
 use Rattle.rwc.proofs.build.build.Goals as goal
 
-pub returns-in-Err-clause-keeps : goal.returns-in-Err-clause-keeps
-returns-in-Err-clause-keeps g c files told =
-    build_stopped _ _ _ files _ _ c.in-Err.stop _ _
-    (ap (λ (h : Holding). let s : Seen = record { holding = h; out = (g.O.Sink.state c.args.out.now).bytes } in s) c.binary_of_file.ensures.same)
-    (c.in-Err.ensures.content files told) c.in-Err.ensures.causes
+build_statuses : (status : ℕ) → IsOneOf (1 ∷ 3 ∷ 11 ∷ []) status → IsOneOf (0 ∷ 1 ∷ 3 ∷ 10 ∷ 11 ∷ []) status
+build_statuses status (inl e) = inr (inl e)
+build_statuses status (inr (inl e)) = inr (inr (inl e))
+build_statuses status (inr (inr (inl e))) = inr (inr (inr (inr (inl e))))
+build_statuses status (inr (inr (inr none))) = absurd none
 
-pub returns-in-Ok-clause-keeps : goal.returns-in-Ok-clause-keeps
-returns-in-Ok-clause-keeps g c files told =
-    follows _
-    (Ok c.deref.result.now, subst (λ (bytes : List ℕ). ContentLeads c.args.pages.now c.args.file.now (content_of files c.args.file.now) (Ok bytes)) (sym c.deref.ensures.value) (c.in-Ok.ensures.content files told), refl)
-    (subst (λ (before : Seen). Follows (build_job c.args.name.now (Ok c.deref.result.now)) before (seen_of (g.S.Shelf.state c.deliver.new.shelf) (g.O.Sink.state c.deliver.new.out)) (status_of c.deliver.result) (line_of c.deliver.result))
-    (ap (λ (h : Holding). let s : Seen = record { holding = h; out = (g.O.Sink.state c.args.out.now).bytes } in s) c.binary_of_file.ensures.same)
-    c.deliver.ensures.follows)
+pub returns-in-Err : goal.returns-in-Err
+returns-in-Err g c =
+    let words = c.args.words.now in
+    let file = words.source.file.now in
+    stopped bytes_of (λ told. BinaryLeads told (spelled_source words.source ∷ []) (record { lin = words.lin; unr = words.unr })) (build_job words.name.now) (file ∷ []) (0 ∷ 1 ∷ 3 ∷ 10 ∷ 11 ∷ []) file _ _ (1 ∷ 3 ∷ 11 ∷ []) _ c.in-Err.stop c.in-Err.ensures (inl refl) build_statuses
+
+pub returns-in-Ok : goal.returns-in-Ok
+returns-in-Ok g c =
+    let words = c.args.words.now in
+    let file = words.source.file.now in
+    let begin = g.S.Shelf.state c.args.shelf.now in
+    let mid = g.S.Shelf.state c.compile.new.shelf in
+    let last = g.S.Shelf.state c.deliver.new.shelf in
+    let start = g.O.Sink.state c.args.out.now in
+    let end = g.O.Sink.state c.deliver.new.out in
+    let result = c.deliver.result in
+    delivered bytes_of (λ told. BinaryLeads told (spelled_source words.source ∷ []) (record { lin = words.lin; unr = words.unr })) (build_job words.name.now) (file ∷ []) (0 ∷ 1 ∷ 3 ∷ 10 ∷ 11 ∷ []) file begin mid (1 ∷ 3 ∷ 11 ∷ []) c.in-Ok.binary last start end result c.in-Ok.ensures
+    (subst (λ (binary : List ℕ). CarriesOut (build_job words.name.now binary) (outside_of mid start) (outside_of last end) (status_of result) (line_of result)) c.deref.ensures.value c.deliver.ensures.carries_out)
+    (λ how e. inl (finished_zero result c.deliver.ensures.finished how e))
+    (write_rose_from begin mid last start end c.compile.ensures.counts)
+    c.deliver.ensures.causes

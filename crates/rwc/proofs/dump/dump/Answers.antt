@@ -1,26 +1,26 @@
-use Rattle.std.proofs.Common.{ℕ, List, ap, sym, subst, Ok}
-use Rattle.rw_io.specs.Files.{content_of}
-use Rattle.rw_io.specs.States.{Holding}
-use Rattle.rwc.specs.Acts.{Seen, seen_of}
-use Rattle.rwc.specs.Dumps.{BytesReport}
-use Rattle.rwc.specs.Endings.{Keeps}
-use Rattle.rwc.specs.Jobs.{LoadLeads}
-use Rattle.rwc.specs.Reports.{DumpReports}
-use Rattle.rwc.specs.Stops.{status_of, line_of}
-use Rattle.rwc.proofs.Endings.{dump_stopped, keeps_also}
+use Rattle.std.proofs.Common.{ℕ, List, [], ◌∷◌, inl, inr, map, string_bytes, refl, ap, sym, subst}
+use Rattle.std.specs.declared.alloc.Global.{Global}
+use Rattle.std.specs.declared.string.String.{String}
+use Rattle.rwc.proofs.Endings.{stopped, delivered, finished_zero, written_also, write_rose_from}
+use Rattle.rwc.specs.Stops.{status_of, line_of, texts_of}
+use Rattle.rwc_reports.specs.Acts.{outside_of}
+use Rattle.rwc_reports.specs.Endings.{CarriesOut}
+use Rattle.rwc_reports.specs.Jobs.{lines_job}
+use Rattle.rwc_reports.specs.Reports.{LinesLead}
 use Rattle.rwc.proofs.dump.dump.Goals as goal
 
-pub returns-in-Err-clause-keeps : goal.returns-in-Err-clause-keeps
-returns-in-Err-clause-keeps g c files told =
-    dump_stopped _ files _ _ c.in-Err.stop _ _
-    (ap (λ (h : Holding). let s : Seen = record { holding = h; out = (g.O.Sink.state c.args.out.now).bytes } in s) c.load_file.ensures.same)
-    (c.in-Err.ensures.content files told) c.in-Err.ensures.causes
+pub returns-in-Err : goal.returns-in-Err
+returns-in-Err g c =
+    stopped texts_of (λ told. LinesLead told c.args.file.now) (λ lines. lines_job lines 0) (c.args.file.now ∷ []) (0 ∷ 3 ∷ 9 ∷ []) c.args.file.now _ _ (3 ∷ 9 ∷ []) _ c.in-Err.stop c.in-Err.ensures (inl refl) (λ status listed. inr listed)
 
-pub returns-in-Ok-clause-keeps : goal.returns-in-Ok-clause-keeps
-returns-in-Ok-clause-keeps g c files told =
-    let bytes = c.deref.result.now in
-    let load = subst (λ (b : List ℕ). LoadLeads c.args.file.now (content_of files c.args.file.now) (Ok b)) (sym c.deref.ensures.value) (c.in-Ok.ensures.content files told) in
-    keeps_also (BytesReport c.args.file.now bytes) (DumpReports c.args.file.now files) (λ job reports. (Ok bytes, load, reports)) _ _ _ _
-    (subst (λ (before : Seen). Keeps (BytesReport c.args.file.now bytes) before (seen_of (g.S.Shelf.state c.load_file.new.shelf) (g.O.Sink.state c.dump_bytes.new.out)) (status_of c.dump_bytes.result) (line_of c.dump_bytes.result))
-    (ap (λ (h : Holding). let s : Seen = record { holding = h; out = (g.O.Sink.state c.args.out.now).bytes } in s) c.load_file.ensures.same)
-    (c.dump_bytes.ensures.keeps (g.S.Shelf.state c.load_file.new.shelf)))
+pub returns-in-Ok : goal.returns-in-Ok
+returns-in-Ok g c =
+    let mid = g.S.Shelf.state c.lines_of_file.new.shelf in
+    let start = g.O.Sink.state c.args.out.now in
+    let end = g.O.Sink.state c.put_lines.new.out in
+    let result = c.put_lines.result in
+    delivered texts_of (λ told. LinesLead told c.args.file.now) (λ lines. lines_job lines 0) (c.args.file.now ∷ []) (0 ∷ 3 ∷ 9 ∷ []) c.args.file.now (g.S.Shelf.state c.args.shelf.now) mid (3 ∷ 9 ∷ []) c.in-Ok.lines mid start end result c.in-Ok.ensures
+    (subst (λ (lines : List (String Global)). CarriesOut (lines_job (map string_bytes lines) 0) (outside_of mid start) (outside_of mid end) (status_of result) (line_of result)) c.deref.ensures.value (c.put_lines.ensures.carries_out mid))
+    (λ how e. inl (finished_zero result c.put_lines.ensures.finished how e))
+    (write_rose_from (g.S.Shelf.state c.args.shelf.now) mid mid start end c.lines_of_file.ensures.counts)
+    (written_also result _ _ (λ rose. inr (inr rose)) c.put_lines.ensures.causes)

@@ -1,6 +1,6 @@
 use Rattle.std.proofs.Common.{◌∷◌, [], ◌-◌, length, take, refl, ap}
 use Rattle.rw_io.specs.States.{Holding}
-use Rattle.rwc.specs.Acts.{append}
+use Rattle.rwc_reports.specs.Acts.{append}
 use Rattle.rwc.proofs.Endings.{says_left}
 use Rattle.rwc.proofs.perform.append_piece.Goals as goal
 
@@ -9,6 +9,6 @@ returns-in-Err-clause-performs g c out = record {
   part = append (take (length c.args.piece.now - c.in-Err.unwritten.left) c.args.piece.now) ∷ [];
   left = c.in-Err.unwritten.left;
   is_part = (c.in-Err.ensures.not_done, c.in-Err.ensures.left, refl);
-  seen = ap (λ (h : Holding). record { holding = h; out = out.bytes }) c.in-Err.ensures.appended;
+  outside = ap (λ (h : Holding). record { holding = h; out = out.bytes }) c.in-Err.ensures.appended;
   says = says_left c.not_whole.result _ _ c.not_whole.ensures;
 }

@@ -1,5 +1,5 @@
 use Rattle.std.proofs.Common.{◌≡◌, ◌++◌, drop, string_bytes}
-use Rattle.rwc.specs.Refusals.{dotted, path_text}
+use Rattle.rwc_reports.specs.Refusals.{dotted, path_text}
 use Rattle.rwc.proofs.refusals.path_of.Given as goal
 
 -- the text so far and that of the rest

@@ -1,24 +1,24 @@
-use Rattle.std.proofs.Common.{map, string_bytes, sym, subst, Some, None}
+use Rattle.std.proofs.Common.{map, string_bytes, refl, ap, subst, Some, None}
 use Rattle.std.specs.declared.option.Option.{Option}
 use Rattle.std.specs.Option.{option_map}
 use Rattle.words.specs.declared.Command.{Command}
 use Rattle.words.specs.Commands.{spelled_command}
-use Rattle.rwc.specs.Acts.{seen_of}
-use Rattle.rwc.specs.Reports.{CommandReports, Reports}
-use Rattle.rwc.proofs.Endings.{keeps_also, words_stopped}
+use Rattle.words.specs.Found.{Finds}
+use Rattle.words.specs.Words.{SpellsCommand}
+use Rattle.rwc.specs.Kept.{command, no_command, no_memory}
 use Rattle.rwc.proofs.top.perform.Goals as goal
 
-pub returns-in-Ok-Some-clause-keeps : goal.returns-in-Ok-Some-clause-keeps
-returns-in-Ok-Some-clause-keeps g c files told =
-    let found = option_map spelled_command c.in-Ok-Some.field-0 in
-    keeps_also (CommandReports (Some (spelled_command c.in-Ok-Some.command)) files) (Reports (map string_bytes c.args.words.now) files)
-    (λ job is. (found, c.in-Ok-Some.ensures.command, subst (λ (command : Option Command). CommandReports (option_map spelled_command command) files job) (sym c.in-Ok-Some.field-0-is) is))
-    _ _ _ _ (c.perform_command.ensures.keeps files told)
+pub returns-in-Ok-Some : goal.returns-in-Ok-Some
+returns-in-Ok-Some g c =
+    command (spelled_command c.in-Ok-Some.command)
+    (subst (λ (found : Option Command). Finds (SpellsCommand (map string_bytes c.args.words.now)) (option_map spelled_command found)) c.in-Ok-Some.field-0-is c.in-Ok-Some.ensures.command)
+    c.perform_command.ensures
 
-pub returns-in-Ok-None-clause-keeps : goal.returns-in-Ok-None-clause-keeps
-returns-in-Ok-None-clause-keeps g c files told =
-    let found = option_map spelled_command c.in-Ok-None.field-0 in
-    let seen = seen_of (g.S.Shelf.state c.args.shelf.now) (g.O.Sink.state c.args.out.now) in
-    keeps_also (CommandReports None files) (Reports (map string_bytes c.args.words.now) files)
-    (λ job is. (found, c.in-Ok-None.ensures.command, subst (λ (command : Option Command). CommandReports (option_map spelled_command command) files job) (sym c.in-Ok-None.field-0-is) is))
-    seen seen _ _ (words_stopped files seen c.refuse_words.result c.refuse_words.ensures)
+pub returns-in-Ok-None : goal.returns-in-Ok-None
+returns-in-Ok-None g c =
+    no_command c.refuse_words.result
+    (subst (λ (found : Option Command). Finds (SpellsCommand (map string_bytes c.args.words.now)) (option_map spelled_command found)) c.in-Ok-None.field-0-is c.in-Ok-None.ensures.command)
+    refl c.refuse_words.ensures refl
+
+pub returns-in-Err : goal.returns-in-Err
+returns-in-Err g c = no_memory refl refl

@@ -1,0 +1,4 @@
+pub mod Decisions
+pub mod Numbers
+pub mod Tokens
+pub mod Bodies

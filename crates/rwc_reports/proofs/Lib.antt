@@ -1,0 +1,9 @@
+pub mod Steps
+pub mod OneReport
+pub mod OneFile
+pub mod LonePrograms
+pub mod SomeReport
+pub mod Ways
+pub mod Causes
+pub mod CommandLaws
+pub mod Answering

@@ -1,0 +1,17 @@
+pub mod Lines
+pub mod TypeTexts
+pub mod Refusals
+pub mod Steps
+pub mod Acts
+pub mod Jobs
+pub mod Sources
+pub mod Binaries
+pub mod Dumps
+pub mod Runs
+pub mod RunRows
+pub mod Reports
+pub mod Endings
+pub mod Answers
+pub mod Causes
+pub mod Headlines
+pub mod Laws
