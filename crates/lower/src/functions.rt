@@ -60,6 +60,7 @@ pub fn room(body: &[Instr], notes: &[Note], end: u64) -> u64
     most
 }
 
+// How many words stand before a plain instruction; no more stand while it is executed.
 fn height(_instr: &Instr, note: &Note) -> u64
     requires plain { IsPlain _instr.now }
     requires within { IsWithin 1000 note.now }
