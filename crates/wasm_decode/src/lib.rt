@@ -1,4 +1,6 @@
 //! The decoder of WebAssembly modules: bytes in pieces of any length, and the module that they spell or their first fault.
+//! Definitions: what a decoder in the middle answers (specs/Decoding.antt), inputs that end in a custom section
+//! (specs/CustomSections.antt). Law: `worked_custom_sections`, two such inputs.
 #![tactic(auto)]
 
 mod decoded;
