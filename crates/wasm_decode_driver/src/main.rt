@@ -16,13 +16,13 @@ mod feeding;
 mod summary;
 
 use crate::answer::Answer;
-use anyhow::ensure;
 use std::alloc::Global;
+use std::io;
 
 /// The most bytes that a case has.
 const MOST: usize = 1_000_000;
 
-fn main(rt: HostRuntime) -> anyhow::Result<()> {
+fn main(rt: HostRuntime) -> io::Result<()> {
     for line in rt.lines(rt.alloc()) {
         let line = line?;
         if !line.starts_with('#') {
@@ -33,47 +33,44 @@ fn main(rt: HostRuntime) -> anyhow::Result<()> {
 }
 
 /// Answers each way of a case.
-fn run_case(rt: &impl Print, alloc: Global, line: &str) -> anyhow::Result<()> {
+fn run_case(rt: &impl Print, alloc: Global, line: &str) -> io::Result<()> {
     let mut words = line.split(' ');
-    let input = bytes_of(alloc, words.next().unwrap_or("-"))?;
+    let input = bytes_of(alloc, words.next().unwrap_or("-"));
     for way in words {
-        let answer = read(alloc, &input, way)?;
-        println!(rt; "{answer}")?;
+        match read(alloc, &input, way) {
+            Some(answer) => println!(rt; "{answer}")?,
+            None => println!(rt; "no such way: {way}")?,
+        }
     }
     Ok(())
 }
 
-/// The bytes of a word in hex.
-fn bytes_of(alloc: Global, word: &str) -> anyhow::Result<Vec<u8>> {
-    if word == "-" {
-        return Ok(Vec::new(alloc));
-    }
-    Ok(hex::decode(alloc, word)?)
+/// The bytes of a word in hex; none where it is not that.
+fn bytes_of(alloc: Global, word: &str) -> Vec<u8> {
+    hex::decode(alloc, word).unwrap_or(Vec::new(alloc))
 }
 
-/// The answer to an input that is read in this way.
-fn read(alloc: Global, input: &[u8], way: &str) -> anyhow::Result<Answer> {
-    ensure!(input.len() <= MOST, "a long case");
-    if way == "whole" {
-        return Ok(answer::whole(alloc, input));
-    }
-    if way == "bytes" {
-        return Ok(answer::bytes(alloc, input));
-    }
-    if way == "form" {
-        return Ok(answer::form(alloc, input));
+/// The answer to an input that is read in this way, if there is such a way.
+fn read(alloc: Global, input: &[u8], way: &str) -> Option<Answer> {
+    if input.len() > MOST {
+        return None;
     }
     if let Some(other) = way.strip_prefix("same:") {
-        return Ok(answer::likeness(alloc, input, &bytes_of(alloc, other)?));
+        return Some(answer::likeness(alloc, input, &bytes_of(alloc, other)));
     }
-    Ok(answer::pieces(alloc, input, &lengths_of(alloc, way)?))
+    match way {
+        "whole" => Some(answer::whole(alloc, input)),
+        "bytes" => Some(answer::bytes(alloc, input)),
+        "form" => Some(answer::form(alloc, input)),
+        _ => Some(answer::pieces(alloc, input, &lengths_of(alloc, way)?)),
+    }
 }
 
 /// The numbers of `3+0+5`.
-fn lengths_of(alloc: Global, way: &str) -> anyhow::Result<Vec<usize>> {
+fn lengths_of(alloc: Global, way: &str) -> Option<Vec<usize>> {
     let mut lengths = Vec::new(alloc);
     for word in way.split('+') {
-        lengths.push(word.parse()?)?;
+        lengths.push(word.parse().ok()?).ok()?;
     }
-    Ok(lengths)
+    Some(lengths)
 }

@@ -8,19 +8,25 @@ use wasm_ast::WModule;
 use wasm_codec::{is_canonical, round_trip};
 use wasm_copy::{copy, same};
 
+/// The names of the counts of a module: those before the start function, and those behind it.
+const FIRST: [&str; 7] = [
+    "types",
+    "imports",
+    "functions",
+    "tables",
+    "memories",
+    "globals",
+    "exports",
+];
+
+const LAST: [&str; 2] = ["elements", "segments"];
+
 /// The counts of a module, and what becomes of it when it is written, copied and read back.
 #[derive(Drop)]
 pub struct Summary {
-    types: usize,
-    imports: usize,
-    functions: usize,
-    tables: usize,
-    memories: usize,
-    globals: usize,
-    exports: usize,
+    first: [usize; 7],
     starts: bool,
-    elements: usize,
-    segments: usize,
+    last: [usize; 2],
     canonical: bool,
     copied: bool,
     returned: bool,
@@ -28,23 +34,16 @@ pub struct Summary {
 
 impl Display for Summary {
     fn fmt<W: Write>(&self, f: &mut Formatter<W>) -> fmt::Result {
-        write!(f, "types {} imports {}", self.types, self.imports)?;
-        write!(f, " functions {} tables {}", self.functions, self.tables)?;
-        write!(f, " memories {} globals {}", self.memories, self.globals)?;
-        write!(
-            f,
-            " exports {} start {}",
-            self.exports,
-            word_of(self.starts)
-        )?;
-        write!(f, " elements {} segments {}", self.elements, self.segments)?;
-        write!(f, " canonical {}", word_of(self.canonical))?;
-        write!(
-            f,
-            " copied {} returned {}",
-            word_of(self.copied),
-            word_of(self.returned)
-        )
+        for (name, count) in FIRST.iter().zip(&self.first) {
+            write!(f, "{name} {count} ")?;
+        }
+        write!(f, "start {} ", word_of(self.starts))?;
+        for (name, count) in LAST.iter().zip(&self.last) {
+            write!(f, "{name} {count} ")?;
+        }
+        write!(f, "canonical {} ", word_of(self.canonical))?;
+        write!(f, "copied {} ", word_of(self.copied))?;
+        write!(f, "returned {}", word_of(self.returned))
     }
 }
 
@@ -59,16 +58,17 @@ pub fn summary_of(alloc: Global, input: &[u8], m: &WModule) -> Summary
     requires profile { IsInProfile m.now }
 {
     Summary {
-        types: m.types.len(),
-        imports: m.imports.len(),
-        functions: m.funcs.len(),
-        tables: m.tables.len(),
-        memories: m.memories.len(),
-        globals: m.globals.len(),
-        exports: m.exports.len(),
+        first: [
+            m.types.len(),
+            m.imports.len(),
+            m.funcs.len(),
+            m.tables.len(),
+            m.memories.len(),
+            m.globals.len(),
+            m.exports.len(),
+        ],
         starts: m.start.is_some(),
-        elements: m.elements.len(),
-        segments: m.segments.len(),
+        last: [m.elements.len(), m.segments.len()],
         canonical: is_canonical(alloc, input, m) == Ok(true),
         copied: is_copied(alloc, m),
         returned: comes_back(alloc, m),
