@@ -13,8 +13,6 @@ mod laws;
 mod numbers;
 mod options;
 mod plain;
-#[cfg(test)]
-mod tests;
 
 use by_clap::read_by_clap;
 use clap::error::ErrorKind;
