@@ -1,5 +1,5 @@
 -- An instruction comes, or none; a body comes, or none; bytes spell a module, or none.
-use Rattle.std.proofs.Common.{◌≡◌, ◌≤◌, ◌⊎◌, inl, inr, ℕ, zero, suc, List, [], ◌∷◌, ◌++◌, codes, length, refl, ap, sym, ◌∙◌, subst, arith}
+use Rattle.std.proofs.Common.{◌≡◌, ◌≤◌, ◌⊎◌, inl, inr, ℕ, zero, suc, List, [], ◌∷◌, codes, length, refl, ap, subst, arith}
 use Rattle.std.specs.List.{list_all}
 use Rattle.rw_types.specs.declared.instrs.Instr.{Instr, I64Const, Num, Print, Drop}
 use Rattle.rw_types.specs.declared.numbers.NumName.TheVariants.{I64Add}
@@ -9,12 +9,12 @@ use Rattle.rw_text.specs.declared.tokens.Token.{Token}
 use Rattle.rw_text.specs.declared.tokens.Token.TheVariants.{Open, Close, Word, Text}
 use Rattle.rw_text.specs.Numbers.{IsI64}
 use Rattle.rw_text.specs.Tokens.{is_blank, Begins, Leads}
-use Rattle.rw_text.specs.Programs.{before_body, behind_body, IsInstr}
+use Rattle.rw_text.specs.Programs.{before_body, behind_body}
 use Rattle.rw_text.specs.Found.{BeginsNone, InstrLeads, BodyLeads}
 use Rattle.rw_text.specs.Spells.{Spells, SpellsNone}
 use Rattle.rw_text.proofs.TokenLemmas.{begins_one}
 use Rattle.rw_text.proofs.Instrs.{const_word, const_found, const_refused, const_rest, const_value, const_close, PlainWord, adds, prints, drops, plain_parts, instr_no_close, instr_no_text}
-use Rattle.rw_text.proofs.Bodies.{BodyStart, ended, goes, body_start, SoFar, sofar_new, sofar_more}
+use Rattle.rw_text.proofs.Bodies.{BodyStart, ended, goes, body_start, sofar_new, sofar_more}
 use Rattle.rw_text.proofs.Whole.{spells_from, no_before_body, no_body, no_behind_body, no_end}
 use Rattle.rw_text_laws.specs.Laws.{ModuleOrNone}
 use Rattle.rw_text_laws.proofs.Decisions.{true_or_false, same_or_not}

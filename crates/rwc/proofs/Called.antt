@@ -1,25 +1,24 @@
 -- What each clause of the top call says, from how the words' job was kept to and how its end was told.
-use Rattle.std.proofs.Common.{◌≡◌, ◌≢◌, ◌≤◌, ◌⊎◌, inl, inr, ℕ, List, [], ◌∷◌, refl, ap, sym, ◌∙◌, subst, arith, string_bytes, Ok, Err, None, Some}
+use Rattle.std.proofs.Common.{◌≡◌, ◌≢◌, ◌⊎◌, inl, inr, ℕ, List, [], refl, ap, sym, ◌∙◌, subst, arith, string_bytes, Ok, Err, None, Some}
 use Rattle.std.specs.declared.option.Option.{Option}
 use Rattle.std.specs.declared.result.Result.{Result}
 use Rattle.rw_io.specs.Files.{NamedFile}
-use Rattle.rw_io.specs.States.{Holding, ShelfState, SinkState}
+use Rattle.rw_io.specs.States.{ShelfState, SinkState}
 use Rattle.words.specs.Words.{Command, files_of, SpellsCommand, SpellNothing}
-use Rattle.words.specs.Found.{Finds}
 use Rattle.words.proofs.SomeCommand.{command_or_none}
 use Rattle.rwc.specs.declared.ending.Done.{Done}
 use Rattle.rwc.specs.declared.ending.Done.TheVariants.{Finished, Trapped, Spent}
 use Rattle.rwc.specs.declared.ending.Stop.{Stop}
 use Rattle.rwc.specs.declared.ending.Stop.TheVariants.{Refused as IsRefused, Unread, Unwritten, Memory}
-use Rattle.rwc.specs.Kept.{EndsBy, KeepsJob, KeepsCommand, KeepsWords, command, no_command, no_memory}
-use Rattle.rwc.specs.Stops.{IfStop, done_status, stop_status, stop_line, status_of, line_of}
+use Rattle.rwc.specs.Kept.{EndsBy, KeepsWords, command, no_command, no_memory}
+use Rattle.rwc.specs.Stops.{IfStop, stop_status, stop_line, status_of, line_of}
 use Rattle.rwc_reports.specs.Acts.{Outside, outside_of}
 use Rattle.rwc_reports.specs.Answers.{files_for, statuses_of, CallEnds, IsAnswer, MayAnswer, ReadFails}
-use Rattle.rwc_reports.specs.Endings.{CarriesOut, KeepsTo, carries_out, unread, unbegun, whole, Tells, WriteRose}
+use Rattle.rwc_reports.specs.Endings.{KeepsTo, carries_out, unread, unbegun, whole, Tells, WriteRose}
 use Rattle.rwc_reports.specs.Jobs.{Job, refusal_job}
 use Rattle.rwc_reports.specs.Lines.{words_line, read_fault_line}
 use Rattle.rwc_reports.specs.Reports.{CommandReports, Reports}
-use Rattle.rwc_reports.specs.Steps.{Refused, IsOneOf}
+use Rattle.rwc_reports.specs.Steps.{IsOneOf}
 use Rattle.rwc_reports.proofs.Answering.{listed_not}
 
 -- what is kept to a job is kept to it among others

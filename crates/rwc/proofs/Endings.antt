@@ -1,5 +1,5 @@
 -- How each exit of a job keeps to it: what was done is a front of its acts, and the line says how it ended.
-use Rattle.std.proofs.Common.{◌≡◌, ◌≤◌, ◌⊎◌, arith, inl, inr, ℕ, List, [], ◌∷◌, ◌++◌, refl, ap, sym, ◌∙◌, subst, string_bytes, Ok, Err, None, Some, lit≤}
+use Rattle.std.proofs.Common.{◌≡◌, ◌≤◌, arith, inl, inr, ℕ, List, [], ◌∷◌, ◌++◌, refl, ap, sym, ◌∙◌, subst, string_bytes, Ok, Err, None, Some, lit≤}
 use Rattle.std.proofs.lemmas.List.{append-nil}
 use Rattle.std.specs.declared.option.Option.{Option}
 use Rattle.std.specs.declared.result.Result.{Result}
@@ -15,9 +15,9 @@ use Rattle.rwc.specs.declared.ending.Stop.TheVariants.{Refused as IsRefused, Unr
 use Rattle.rwc.specs.Kept.{LoadsTo, EndsBy, KeepsJob}
 use Rattle.rwc.specs.Stops.{IfStop, IfStopped, StopsWithin, done_status, stop_status, stop_line, status_of, line_of}
 use Rattle.rwc_reports.specs.Acts.{Act, Outside, outside_of, after_act, after_acts, BreaksOff}
-use Rattle.rwc_reports.specs.Endings.{JobEnds, whole, unwritten, no_memory_within, CarriesOut, KeepsTo, carries_out, unread, unbegun, Tells, WriteRose}
+use Rattle.rwc_reports.specs.Endings.{JobEnds, whole, unwritten, no_memory_within, CarriesOut, carries_out, unread, unbegun, Tells, WriteRose}
 use Rattle.rwc_reports.specs.Jobs.{Job, refusal_job, JobOf}
-use Rattle.rwc_reports.specs.Lines.{read_fault_line, write_fault_line}
+use Rattle.rwc_reports.specs.Lines.{write_fault_line}
 use Rattle.rwc_reports.specs.Steps.{Refused, goes_on, stops, IsOneOf}
 
 pub after_acts-append : (xs ys : List Act) (outside : Outside) → after_acts (xs ++ ys) outside ≡ after_acts ys (after_acts xs outside)

@@ -1,5 +1,5 @@
 -- Steps from a file, one after another: each exit answers as the steps allow.
-use Rattle.std.proofs.Common.{◌≡◌, ◌⊎◌, ◌≤◌, inl, inr, ℕ, List, [], ◌∷◌, refl, ap, sym, ◌∙◌, subst, string_bytes, Ok, Err, Some}
+use Rattle.std.proofs.Common.{◌≡◌, ℕ, List, refl, sym, subst, string_bytes, Ok, Err, Some}
 use Rattle.std.specs.declared.alloc.AllocError.{AllocError}
 use Rattle.std.specs.declared.alloc.Global.{Global}
 use Rattle.std.specs.declared.result.Result.{Result}
@@ -11,7 +11,7 @@ use Rattle.rw_io.specs.States.{ShelfState, NoShelfCountFell}
 use Rattle.rwc.specs.declared.ending.Stop.{Stop}
 use Rattle.rwc.specs.declared.ending.Stop.TheVariants.{Refused as IsRefused, Unread, Unwritten, Memory}
 use Rattle.rwc.specs.Kept.{LoadsTo}
-use Rattle.rwc.specs.Stops.{IfStop, IsStep}
+use Rattle.rwc.specs.Stops.{IsStep}
 use Rattle.rwc_reports.specs.Lines.{read_fault_line}
 use Rattle.rwc_reports.specs.Steps.{Refused, IsOneOf}
 

@@ -1,7 +1,6 @@
 -- How far a function of a command has come with its job.
-use Rattle.std.specs.Prelude.{◌≡◌, ℕ, List, [], ⊤}
-use Rattle.std.specs.declared.option.Option.{Option}
-use Rattle.std.specs.declared.option.Option.TheVariants.{None, Some}
+use Rattle.std.specs.Prelude.{◌≡◌, ℕ, List, ⊤}
+use Rattle.std.specs.declared.option.Option.TheVariants.{Some}
 use Rattle.std.specs.declared.result.Result.{Result}
 use Rattle.std.specs.declared.result.Result.TheVariants.{Ok, Err}
 use Rattle.rw_io.specs.Counts.{Rose}
@@ -10,8 +9,8 @@ use Rattle.rw_io.specs.States.{ShelfState, SinkState, NoShelfCountFell}
 use Rattle.words.specs.Words.{Command, files_of, SpellsCommand, SpellNothing}
 use Rattle.rwc.specs.declared.ending.Done.{Done}
 use Rattle.rwc.specs.declared.ending.Stop.{Stop}
-use Rattle.rwc.specs.declared.ending.Stop.TheVariants.{Refused as RefusedStop, Unread, Unwritten, Memory}
-use Rattle.rwc.specs.Stops.{done_status, status_of, line_of, IfStop, IfStopped}
+use Rattle.rwc.specs.declared.ending.Stop.TheVariants.{Memory}
+use Rattle.rwc.specs.Stops.{done_status, status_of, line_of, IfStop}
 use Rattle.rwc_reports.specs.Acts.{outside_of}
 use Rattle.rwc_reports.specs.Answers.{statuses_of}
 use Rattle.rwc_reports.specs.Endings.{KeepsTo, WriteRose}

@@ -1,12 +1,11 @@
 -- What each answer of a call says and leaves, from how it kept to its job.
 use Rattle.std.specs.Prelude.{◌==◌, ◌||◌}
-use Rattle.std.proofs.Common.{◌≡◌, ◌≢◌, ◌≤◌, ◌<◌, ◌⊎◌, inl, inr, ℕ, Bool, true, false, ◌-◌, List, [], ◌∷◌, ◌++◌, length, take, drop, refl, ap, sym, ◌∙◌, subst, arith, append_assoc, lit≤, Ok, Err, None, Some}
+use Rattle.std.proofs.Common.{◌≡◌, ◌≢◌, ◌⊎◌, inl, inr, ℕ, Bool, true, false, ◌-◌, List, [], ◌∷◌, ◌++◌, length, take, drop, refl, ap, sym, ◌∙◌, subst, arith, append_assoc, Ok, None, Some}
 use Rattle.std.proofs.Math.Seq.{take-append_seam}
 use Rattle.std.proofs.lemmas.List.{append-nil, take-append-drop}
 use Rattle.std.specs.declared.option.Option.{Option}
 use Rattle.std.specs.Option.{option_map}
 use Rattle.std.specs.Io.KnownBytes.{append_known}
-use Rattle.machine_steps.specs.Agreement.{Alike}
 use Rattle.lowering_laws.proofs.Behaves.{lowered_behaves}
 use Rattle.lowering_table.specs.declared.Pages.{Pages}
 use Rattle.lowering_table.specs.Modules.{ArePages, low_module}
@@ -22,18 +21,18 @@ use Rattle.words.specs.Words.{Command, build, dump, Source, SpellsCommand}
 use Rattle.words.specs.Found.{Finds}
 use Rattle.rwc_reports.specs.Acts.{Act, create, append, put, Outside, after_act, after_acts, outside_of, IsPart, BreaksOff}
 use Rattle.rwc_reports.specs.Answers.{text_of, PutsText, HasStatus, statuses_of, IsRefusal}
-use Rattle.rwc_reports.specs.Binaries.{ProgramLowers, ModuleEncodes, encoded, too_long, ProgramLeads}
-use Rattle.rwc_reports.specs.Causes.{Cause, IsRefusedFor}
-use Rattle.rwc_reports.specs.Endings.{JobEnds, whole, unwritten, no_memory, no_memory_within, CarriesOut, KeepsTo, carries_out, unread, unbegun, Tells}
+use Rattle.rwc_reports.specs.Binaries.{ModuleEncodes, encoded, too_long, ProgramLeads}
+use Rattle.rwc_reports.specs.Causes.{IsRefusedFor}
+use Rattle.rwc_reports.specs.Endings.{JobEnds, whole, unwritten, no_memory, no_memory_within, KeepsTo, carries_out, unread, unbegun, Tells}
 use Rattle.rwc_reports.specs.Headlines.{Built}
-use Rattle.rwc_reports.specs.Jobs.{Job, refusal_job}
+use Rattle.rwc_reports.specs.Jobs.{Job}
 use Rattle.rwc_reports.specs.Lines.{wrote_line}
-use Rattle.rwc_reports.specs.Reports.{build_job, words_job, CommandReports, Reports}
+use Rattle.rwc_reports.specs.Reports.{build_job, CommandReports, Reports}
 use Rattle.rwc_reports.specs.Sources.{FilesLead}
 use Rattle.rwc_reports.specs.Steps.{Refused, goes_on, stops, IsOneOf}
-use Rattle.rwc_reports.proofs.Causes.{Refuses, of_files, of_program, Comes, refuses, is_done, comes, job_status, apart}
+use Rattle.rwc_reports.proofs.Causes.{of_files, of_program, Comes, refuses, is_done, comes, job_status, apart}
 use Rattle.rwc_reports.proofs.LonePrograms.{leads_to_lone}
-use Rattle.rwc_reports.proofs.OneReport.{one_report, reports_found, found_one}
+use Rattle.rwc_reports.proofs.OneReport.{one_report, reports_found}
 use Rattle.rwc_reports.proofs.SomeReport.{are_pages}
 use Rattle.rwc_reports.proofs.Steps.{same_value, not_both}
 use Rattle.rwc_reports.proofs.Ways.{BuildComes, refused_files, refused_program, is_built, build_comes}

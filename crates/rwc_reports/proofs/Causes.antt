@@ -1,6 +1,6 @@
 -- Why a job is refused: each refusal on the way to it, taken apart.
 use Rattle.std.specs.Prelude.{◌==◌, ◌||◌}
-use Rattle.std.proofs.Common.{◌≡◌, ◌≢◌, ◌<◌, ◌⊎◌, inl, inr, ℕ, Bool, true, false, List, [], ◌∷◌, refl, ap, sym, ◌∙◌, subst, Ok, Err, None, Some}
+use Rattle.std.proofs.Common.{◌≡◌, inl, inr, ℕ, Bool, true, false, List, [], ◌∷◌, refl, ap, sym, ◌∙◌, subst, Ok, Err, None, Some}
 use Rattle.std.specs.declared.option.Option.{Option}
 use Rattle.std.specs.declared.result.Result.{Result}
 use Rattle.wasm_ast.specs.declared.modules.WModule.{WModule}
@@ -9,7 +9,6 @@ use Rattle.rw_types.specs.declared.modules.Module.{Module}
 use Rattle.rw_text.specs.Spells.{Spells}
 use Rattle.rw_program.specs.Modules.{TypedModule}
 use Rattle.rw_program.specs.Programs.{Program}
-use Rattle.lowering_table.specs.declared.Pages.{Pages}
 use Rattle.lowering_table.specs.Modules.{low_module}
 use Rattle.rw_io.specs.Files.{NamedFile}
 use Rattle.words.specs.declared.SourceKind.{SourceKind}
@@ -18,9 +17,9 @@ use Rattle.rwc_reports.specs.Answers.{statuses_of, IsRefusal}
 use Rattle.rwc_reports.specs.Binaries.{ProgramLeads, ModuleEncodes, encoded, too_long as section_too_long, BinaryDecodes, decoded, malformed, malformed_refusal}
 use Rattle.rwc_reports.specs.Causes.{Cause, not_loaded, no_module, violated as in_violation, malformed as at_fault, not_linked, too_long as unencoded, RefusedSource}
 use Rattle.rwc_reports.specs.Jobs.{Job, refusal_job}
-use Rattle.rwc_reports.specs.Reports.{words_job, CommandReports}
-use Rattle.rwc_reports.specs.Sources.{FileLoads, loaded, missing, too_long, TextReads, spelled, not_spelled, ModuleChecks, typed, violated, SourceChecks, HasNoMain, ModulesLink, linked, no_main, SourcesLoad, SourcesCheck, SourcesLink, FilesLead}
-use Rattle.rwc_reports.specs.Steps.{Refused, goes_on, stops, EachLeads, FirstRefused, IsOneOf}
+use Rattle.rwc_reports.specs.Reports.{CommandReports}
+use Rattle.rwc_reports.specs.Sources.{FileLoads, loaded, missing, too_long, TextReads, spelled, not_spelled, ModuleChecks, typed, violated, SourceChecks, linked, no_main, SourcesLoad, SourcesLink, FilesLead}
+use Rattle.rwc_reports.specs.Steps.{Refused, goes_on, stops, EachLeads, IsOneOf}
 use Rattle.rwc_reports.proofs.Steps.{same_value, same_refused, not_both, first_refused}
 use Rattle.rwc_reports.proofs.Ways.{BuildComes, refused_files, refused_program, is_built, build_comes, DumpComes, refused_file, refused_binary, is_dumped, dump_comes}
 

@@ -1,5 +1,5 @@
 -- What is said of one command, from its job.
-use Rattle.std.proofs.Common.{◌≡◌, ◌≢◌, ◌≤◌, ◌<◌, ◌⊎◌, inl, inr, ℕ, List, [], ◌∷◌, length, map, refl, ap, sym, ◌∙◌, subst, arith, Ok, Err, None, Some}
+use Rattle.std.proofs.Common.{◌≡◌, ◌≢◌, ◌≤◌, ◌⊎◌, inl, inr, ℕ, List, [], ◌∷◌, length, refl, ap, sym, ◌∙◌, subst, arith, Ok, Err, None, Some}
 use Rattle.std.specs.declared.option.Option.{Option}
 use Rattle.wasm_ast.specs.declared.modules.WModule.{WModule}
 use Rattle.wasm_encode.specs.Contents.{IsFirstTooLong}
@@ -15,10 +15,9 @@ use Rattle.rich_typing.specs.declared.notes.Note.{Note}
 use Rattle.rich_typing.specs.Derivations.{IsTyped}
 use Rattle.rich_typing.specs.Violations.{FirstViolation}
 use Rattle.rw_program.specs.Programs.{Program}
-use Rattle.rw_program.specs.Modules.{TypedModule}
 use Rattle.lowering_laws.proofs.Behaves.{lowered_ends}
 use Rattle.lowering_table.specs.declared.Pages.{Pages}
-use Rattle.lowering_table.specs.Modules.{ArePages, low_module}
+use Rattle.lowering_table.specs.Modules.{ArePages}
 use Rattle.lower.proofs.ShortContents.{low_has_short_contents}
 use Rattle.rw_io.specs.Files.{NamedFile, content_of}
 use Rattle.rw_types.specs.LoneMain.{IsLoneMain}
@@ -26,16 +25,16 @@ use Rattle.words.specs.declared.SourceKind.{SourceKind}
 use Rattle.words.specs.Words.{Command, build, dump, Source, SpellsCommand}
 use Rattle.words.specs.Found.{Finds}
 use Rattle.rwc_reports.specs.Answers.{statuses_of}
-use Rattle.rwc_reports.specs.Binaries.{ProgramLeads, ModuleEncodes, encoded, too_long as section_too_long, BinaryDecodes, decoded, malformed}
+use Rattle.rwc_reports.specs.Binaries.{ProgramLeads, encoded, too_long as section_too_long, decoded, malformed}
 use Rattle.rwc_reports.specs.Dumps.{dump_job}
-use Rattle.rwc_reports.specs.Jobs.{Job, refusal_job}
+use Rattle.rwc_reports.specs.Jobs.{Job}
 use Rattle.rwc_reports.specs.Laws.{StatusesOfCommands, TypedIsBuilt, ModuleIsDumped, FaultIsRefused, IsDumped, DumpedIsModule, ProgramsEnd, NoneTooLong, NoTypeTold}
-use Rattle.rwc_reports.specs.Reports.{CommandReports, Reports}
-use Rattle.rwc_reports.specs.Sources.{max_file_length, FileLoads, loaded, missing, too_long, TextReads, spelled, not_spelled, ModuleChecks, typed, violated, SourceChecks, SourcesLoad, SourcesCheck, SourcesLink, FilesLead}
-use Rattle.rwc_reports.specs.Steps.{Refused, goes_on, stops, EachLeads, IsOneOf}
+use Rattle.rwc_reports.specs.Reports.{CommandReports}
+use Rattle.rwc_reports.specs.Sources.{max_file_length, FileLoads, loaded, missing, too_long, TextReads, spelled, not_spelled, typed, violated, SourceChecks, SourcesCheck, FilesLead}
+use Rattle.rwc_reports.specs.Steps.{Refused, goes_on, stops, IsOneOf}
 use Rattle.rwc_reports.proofs.Causes.{load_status, of_first, of_file, of_binary, job_status, apart}
 use Rattle.rwc_reports.proofs.LonePrograms.{leads_to_lone, one_checked, links}
-use Rattle.rwc_reports.proofs.OneReport.{same_some, not_none, one_load, one_tree, reports_found}
+use Rattle.rwc_reports.proofs.OneReport.{one_load, one_tree, reports_found}
 use Rattle.rwc_reports.proofs.SomeReport.{are_pages}
 use Rattle.rwc_reports.proofs.Ways.{BuildComes, refused_files, refused_program, is_built, build_comes, DumpComes, refused_file, refused_binary, is_dumped, dump_comes}
 use Rattle.rwc_reports.proofs.Steps.{same_value, same_refused, not_both, value_of_one, first_refused}

@@ -1,11 +1,9 @@
 -- What told files lead to is a program of one function, whose lowered module has short sections.
-use Rattle.std.proofs.Common.{◌≡◌, ◌≢◌, ◌≤◌, ℕ, List, [], ◌∷◌, map, refl, ap, sym, ◌∙◌, subst, arith, Ok, Err, None, Some}
+use Rattle.std.proofs.Common.{◌≡◌, ℕ, List, [], ◌∷◌, map, refl, ap, sym, ◌∙◌, subst, Ok, Err, None, Some}
 use Rattle.std.specs.declared.option.Option.{Option}
-use Rattle.std.specs.declared.result.Result.{Result}
 use Rattle.rw_types.specs.declared.instrs.Instr.{Instr}
 use Rattle.rw_types.specs.declared.modules.Module.{Module}
 use Rattle.rw_types.specs.LoneMain.{lone_main}
-use Rattle.rw_text.specs.Spells.{Spells}
 use Rattle.rich_typing.specs.declared.notes.Note.{Note}
 use Rattle.rich_typing.specs.Derivations.{Derives, HaveDerivations, IsTyped}
 use Rattle.rich_typing.specs.Table.{unr_i64}
@@ -16,10 +14,10 @@ use Rattle.rw_program.specs.Programs.{Program}
 use Rattle.rw_io.specs.Files.{NamedFile}
 use Rattle.words.specs.Words.{Source}
 use Rattle.rwc_reports.specs.Laws.{LeadsToLone}
-use Rattle.rwc_reports.specs.Sources.{FileLoads, TextReads, ModuleChecks, typed, violated, SourceChecks, HasNoMain, ModulesLink, linked, no_main, SourcesLoad, SourcesCheck, SourcesLink, FilesLead}
-use Rattle.rwc_reports.specs.Steps.{Refused, Then, goes_on, stops, Onward, EachLeads}
+use Rattle.rwc_reports.specs.Sources.{FileLoads, ModuleChecks, typed, violated, SourceChecks, ModulesLink, linked, no_main, SourcesLoad, SourcesCheck, SourcesLink}
+use Rattle.rwc_reports.specs.Steps.{Refused, goes_on, stops}
 use Rattle.rwc_reports.proofs.OneReport.{same_some}
-use Rattle.rwc_reports.proofs.Steps.{same_value, not_both, OneValue, value_of_one}
+use Rattle.rwc_reports.proofs.Steps.{same_value, not_both, value_of_one}
 
 record OneBody (body : List Instr) (notes : List (List Note)) : Type 0 where
   own : List Note

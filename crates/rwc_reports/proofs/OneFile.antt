@@ -1,5 +1,5 @@
 -- The way of one source file to its job, from the steps that code makes one after another.
-use Rattle.std.proofs.Common.{◌≡◌, ℕ, List, [], ◌∷◌, refl, ap, sym, ◌∙◌, subst, Ok, Err, Some}
+use Rattle.std.proofs.Common.{◌≡◌, ℕ, List, [], ◌∷◌, refl, Ok, Err, Some}
 use Rattle.std.specs.declared.result.Result.{Result}
 use Rattle.rw_types.specs.declared.modules.Module.{Module}
 use Rattle.rw_program.specs.Modules.{TypedModule}
@@ -7,12 +7,12 @@ use Rattle.rw_program.specs.Programs.{Program}
 use Rattle.rw_program.specs.Linking.{program_of}
 use Rattle.lowering_table.specs.declared.Pages.{Pages}
 use Rattle.rw_io.specs.Files.{NamedFile}
-use Rattle.words.specs.Words.{Command, build, Source}
+use Rattle.words.specs.Words.{Source}
 use Rattle.rwc_reports.specs.Binaries.{ProgramLeads}
 use Rattle.rwc_reports.specs.Reports.{BinaryLeads}
-use Rattle.rwc_reports.specs.Sources.{FileLoads, TextReads, ModuleChecks, SourceChecks, ModulesLink, linked, FilesLead}
-use Rattle.rwc_reports.specs.Steps.{Refused, Then, goes_on, stops, Onward}
-use Rattle.rwc_reports.proofs.Steps.{same_refused, one_value, one_refused}
+use Rattle.rwc_reports.specs.Sources.{FileLoads, TextReads, ModuleChecks, SourceChecks, linked, FilesLead}
+use Rattle.rwc_reports.specs.Steps.{Refused, goes_on, stops}
+use Rattle.rwc_reports.proofs.Steps.{one_value, one_refused}
 
 module _ (told : List NamedFile) (source : Source) where
   checks_stop : (bytes : List ℕ) (refused : Refused) → FileLoads told source.file (Ok bytes) → SourceChecks (source, bytes) (Err refused) → FilesLead told (source ∷ []) (Err refused)

@@ -1,5 +1,5 @@
 -- Words and files report one job at most: each step of the way to it comes to one answer at most.
-use Rattle.std.proofs.Common.{◌≡◌, ◌<◌, ◌≤◌, ◌⊎◌, refl, inl, inr, ℕ, zero, suc, List, [], ◌∷◌, length, map, ap, sym, ◌∙◌, subst, arith, Ok, Err, None, Some}
+use Rattle.std.proofs.Common.{◌≡◌, ◌<◌, ◌⊎◌, refl, inl, inr, ℕ, zero, suc, List, [], ◌∷◌, length, map, ap, sym, ◌∙◌, subst, arith, Ok, Err, None, Some}
 use Rattle.std.specs.declared.option.Option.{Option}
 use Rattle.std.specs.declared.result.Result.{Result}
 use Rattle.wasm_ast.specs.declared.modules.WModule.{WModule}
@@ -17,7 +17,7 @@ use Rattle.rw_program.specs.Linking.{program_of}
 use Rattle.rw_program.specs.Modules.{TypedModule}
 use Rattle.rw_program.specs.Programs.{Program}
 use Rattle.lowering_table.specs.declared.Pages.{Pages}
-use Rattle.rw_io.specs.Files.{NamedFile, content_of}
+use Rattle.rw_io.specs.Files.{NamedFile}
 use Rattle.words.specs.declared.SourceKind.{SourceKind}
 use Rattle.words.specs.Words.{Command, build, dump, Source, SpellsCommand}
 use Rattle.words.specs.Found.{Finds}
@@ -26,12 +26,12 @@ use Rattle.rwc_reports.specs.Binaries.{ProgramLowers, ModuleEncodes, encoded, to
 use Rattle.rwc_reports.specs.Dumps.{module_lines}
 use Rattle.rwc_reports.specs.Jobs.{Job, refusal_job, lines_job}
 use Rattle.rwc_reports.specs.Laws.{OneReport}
-use Rattle.rwc_reports.specs.Lines.{missing_line, too_many_section_line}
+use Rattle.rwc_reports.specs.Lines.{too_many_section_line}
 use Rattle.rwc_reports.specs.Refusals.{violation_line}
 use Rattle.rwc_reports.specs.Reports.{build_job, BinaryLeads, LinesLead, CommandReports, Reports}
-use Rattle.rwc_reports.specs.Sources.{max_file_length, FileLoads, loaded, missing, too_long, TextReads, spelled, not_spelled, ModuleChecks, typed, violated, SourceChecks, HasNoMain, ModulesLink, linked, no_main, SourcesLoad, SourcesCheck, SourcesLink, FilesLead}
+use Rattle.rwc_reports.specs.Sources.{FileLoads, loaded, missing, too_long, TextReads, spelled, not_spelled, ModuleChecks, typed, violated, SourceChecks, HasNoMain, ModulesLink, linked, no_main, SourcesLoad, SourcesCheck, SourcesLink, FilesLead}
 use Rattle.rwc_reports.specs.Steps.{Refused, Onward}
-use Rattle.rwc_reports.proofs.Steps.{same_value, one_then, one_each}
+use Rattle.rwc_reports.proofs.Steps.{one_then, one_each}
 
 pub same_some : {A : Type 0} (a b : A) → (let o : Option A = Some a in o) ≡ Some b → a ≡ b
 same_some a b e = cc

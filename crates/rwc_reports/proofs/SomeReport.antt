@@ -1,10 +1,9 @@
 -- Words and told files report a job: each step of the way to it comes to an answer.
-use Rattle.std.proofs.Common.{◌≡◌, ◌≢◌, ◌≤◌, ◌<◌, ◌⊎◌, inl, inr, ℕ, zero, suc, List, [], ◌∷◌, Bool, true, false, cond, length, map, refl, ap, sym, ◌∙◌, subst, arith, lit≤, Ok, Err, None, Some}
+use Rattle.std.proofs.Common.{◌≡◌, ◌≤◌, ◌<◌, ◌⊎◌, inl, inr, ℕ, zero, suc, List, [], ◌∷◌, Bool, true, false, cond, length, map, refl, sym, subst, arith, lit≤, Ok, Err, None, Some}
 use Rattle.std.specs.Prelude.{codes}
 use Rattle.std.specs.Str.{bytes_eq}
 use Rattle.std.specs.declared.option.Option.{Option}
 use Rattle.std.specs.declared.result.Result.{Result}
-use Rattle.wasm_ast.specs.declared.modules.WModule.{WModule}
 use Rattle.wasm_grammar.specs.CanonicalModules.{HasShortContents}
 use Rattle.wasm_reading_laws.proofs.Faults.{module_or_fault}
 use Rattle.wasm_reading_values.specs.Exactness.{AreBytes}
@@ -24,11 +23,11 @@ use Rattle.words.specs.declared.SourceKind.TheVariants.{Rich}
 use Rattle.words.specs.Words.{Command, build, dump, Source, SpellsCommand, GivesNumber, values_for}
 use Rattle.words.specs.Found.{Finds}
 use Rattle.words.proofs.SomeCommand.{command_or_none}
-use Rattle.rwc_reports.specs.Binaries.{ProgramLowers, ModuleEncodes, encoded, ProgramLeads, BinaryDecodes, decoded, malformed, malformed_refusal}
+use Rattle.rwc_reports.specs.Binaries.{ProgramLowers, ModuleEncodes, encoded, ProgramLeads, BinaryDecodes, decoded, malformed}
 use Rattle.rwc_reports.specs.Dumps.{module_lines}
 use Rattle.rwc_reports.specs.Jobs.{Job, refusal_job, lines_job}
 use Rattle.rwc_reports.specs.Laws.{AreOfBytes, SomeReport}
-use Rattle.rwc_reports.specs.Reports.{build_job, words_job, BinaryLeads, LinesLead, CommandReports, Reports}
+use Rattle.rwc_reports.specs.Reports.{build_job, words_job, BinaryLeads, LinesLead, CommandReports}
 use Rattle.rwc_reports.specs.Sources.{max_file_length, FileLoads, loaded, missing, too_long, TextReads, spelled, not_spelled, ModuleChecks, typed, violated, SourceChecks, HasNoMain, ModulesLink, linked, no_main, SourcesLoad, SourcesCheck, SourcesLink, FilesLead}
 use Rattle.rwc_reports.specs.Steps.{Refused, Onward}
 use Rattle.rwc_reports.proofs.LonePrograms.{one_checked, leads_to_lone}

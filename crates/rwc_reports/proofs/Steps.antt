@@ -1,5 +1,5 @@
 -- Steps one after another: where each comes to one answer at most, they do together; where each comes to some, they do.
-use Rattle.std.proofs.Common.{◌≡◌, List, [], ◌∷◌, ◌++◌, refl, ap, sym, ◌∙◌, subst, Ok, Err}
+use Rattle.std.proofs.Common.{◌≡◌, List, [], ◌∷◌, refl, ap, sym, ◌∙◌, subst, Ok, Err}
 use Rattle.std.specs.declared.result.Result.{Result}
 use Rattle.rwc_reports.specs.Steps.{Refused, Then, goes_on, stops, Onward, EachLeads, FirstRefused}
 

@@ -1,15 +1,13 @@
 -- The ways to the job of a command, taken apart: where it is refused, and where it is done.
-use Rattle.std.proofs.Common.{◌≡◌, ℕ, List, [], ◌∷◌, refl, ap, sym, ◌∙◌, subst, Ok, Err, Some}
-use Rattle.std.specs.declared.result.Result.{Result}
+use Rattle.std.proofs.Common.{◌≡◌, ℕ, List, [], ◌∷◌, ap, sym, ◌∙◌, Ok, Err, Some}
 use Rattle.wasm_ast.specs.declared.modules.WModule.{WModule}
 use Rattle.rw_program.specs.Programs.{Program}
-use Rattle.lowering_table.specs.declared.Pages.{Pages}
 use Rattle.rw_io.specs.Files.{NamedFile}
-use Rattle.words.specs.Words.{Command, build, dump, Source}
+use Rattle.words.specs.Words.{build, dump, Source}
 use Rattle.rwc_reports.specs.Binaries.{ProgramLeads, BinaryDecodes}
 use Rattle.rwc_reports.specs.Dumps.{dump_job, module_lines}
 use Rattle.rwc_reports.specs.Jobs.{Job, refusal_job, lines_job}
-use Rattle.rwc_reports.specs.Reports.{build_job, BinaryLeads, LinesLead, CommandReports}
+use Rattle.rwc_reports.specs.Reports.{build_job, CommandReports}
 use Rattle.rwc_reports.specs.Sources.{FileLoads, FilesLead}
 use Rattle.rwc_reports.specs.Steps.{Refused, goes_on, stops}
 use Rattle.rwc_reports.proofs.Steps.{same_value, same_refused, not_both}

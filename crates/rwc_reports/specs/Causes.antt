@@ -1,5 +1,5 @@
 -- Why a job is refused; this project's own.
-use Rattle.std.specs.Prelude.{◌≡◌, ◌⊎◌, ℕ, List, [], ◌∷◌}
+use Rattle.std.specs.Prelude.{◌≡◌, ℕ, List, [], ◌∷◌}
 use Rattle.std.specs.declared.result.Result.TheVariants.{Ok, Err}
 use Rattle.wasm_encode.specs.Contents.{IsFirstTooLong}
 use Rattle.wasm_reading.specs.declared.fault.DecodeError.{DecodeError}
@@ -15,9 +15,9 @@ use Rattle.rw_io.specs.States.{SinkState}
 use Rattle.words.specs.Words.{Command, build, dump, Source, files_of, SpellsCommand}
 use Rattle.rwc_reports.specs.Binaries.{malformed_refusal}
 use Rattle.rwc_reports.specs.Endings.{Tells}
-use Rattle.rwc_reports.specs.Lines.{text_line, too_many_section_line}
+use Rattle.rwc_reports.specs.Lines.{too_many_section_line}
 use Rattle.rwc_reports.specs.Refusals.{violation_line}
-use Rattle.rwc_reports.specs.Sources.{FileLoads, SourcesLoad, SourceChecks, SourcesCheck, SourcesLink, FilesLead, HasNoMain}
+use Rattle.rwc_reports.specs.Sources.{FileLoads, SourcesLoad, SourceChecks, SourcesCheck, SourcesLink, FilesLead}
 use Rattle.rwc_reports.specs.Steps.{Refused, FirstRefused}
 
 -- the sources of a command

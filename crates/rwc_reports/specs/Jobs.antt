@@ -1,5 +1,5 @@
 -- Jobs: what a command does and says; this project's own.
-use Rattle.std.specs.Prelude.{◌≡◌, ℕ, List, [], map}
+use Rattle.std.specs.Prelude.{ℕ, List, [], map}
 use Rattle.rwc_reports.specs.Acts.{Act, put}
 use Rattle.rwc_reports.specs.Steps.{Refused, Then}
 use Rattle.std.specs.declared.result.Result.{Result}

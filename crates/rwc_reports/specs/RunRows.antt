@@ -1,12 +1,11 @@
 -- Runs and their lines, written out (this project's own rows).
-use Rattle.std.specs.Prelude.{◌≡◌, ℕ, ℤ, pos, ◌<◌, List, [], ◌∷◌, codes}
+use Rattle.std.specs.Prelude.{◌≡◌, ℕ, pos, ◌<◌, List, [], ◌∷◌, codes}
 use Rattle.machine_steps.specs.declared.End.{End}
 use Rattle.machine_steps.specs.declared.End.TheVariants.{Value, Trap}
 use Rattle.machine_steps.specs.declared.Trap.TheVariants.{Overflow}
 use Rattle.machine_steps.specs.Steps.{Going, Over}
 use Rattle.machine_steps.specs.Agreement.{Seen}
 use Rattle.rwc_reports.specs.Acts.{put}
-use Rattle.rwc_reports.specs.Jobs.{Job}
 use Rattle.rwc_reports.specs.Runs.{RunReports}
 
 -- a run that goes on until it has ended after so many steps

@@ -9,8 +9,8 @@ use Rattle.words.specs.declared.SourceKind.TheVariants.{Rich}
 use Rattle.words.specs.Files.{is_plain_name, is_source_file, module_name_of}
 use Rattle.words.specs.Found.{Finds}
 use Rattle.words.specs.Reading.{settings_of, files_after}
-use Rattle.words.specs.Words.{Setting, HaveFlags, GivesNumber, GivesName, IsNumber, values_for, Command, build, dump, Source, IsSourceNamed, SpellsCommand, CommandOrNone}
-use Rattle.words.proofs.Spelling.{GivesBuild, GivesDump, spells_build, spells_dump, no_build, no_dump, no_command, no_words, head_is}
+use Rattle.words.specs.Words.{Setting, GivesNumber, GivesName, IsNumber, values_for, Command, build, dump, Source, IsSourceNamed, SpellsCommand, CommandOrNone}
+use Rattle.words.proofs.Spelling.{GivesBuild, spells_build, spells_dump, no_build, no_dump, no_command, no_words, head_is}
 
 -- a thing of which this holds, or none
 record Sought {T : Type 0} (P : T → Type 0) : Type 0 where

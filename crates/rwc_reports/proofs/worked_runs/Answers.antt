@@ -1,9 +1,9 @@
-use Rattle.std.proofs.Common.{◌≡◌, ◌<◌, ◌+◌, ℕ, List, [], ◌∷◌, ◌++◌, refl, ap, sym, ◌∙◌, arith}
-use Rattle.std.specs.Prelude.{codes, pos, decimal}
+use Rattle.std.proofs.Common.{◌≡◌, ◌<◌, ◌+◌, ℕ, List, [], ◌∷◌, ◌++◌, ap, sym, ◌∙◌, arith}
+use Rattle.std.specs.Prelude.{codes, pos}
 use Rattle.std.proofs.lemmas.Fmt.{decimal_digit}
 use Rattle.machine_steps.specs.declared.End.TheVariants.{Value, Trap}
 use Rattle.machine_steps.specs.declared.Trap.TheVariants.{Overflow}
-use Rattle.rwc_reports.specs.Acts.{Act, put}
+use Rattle.rwc_reports.specs.Acts.{put}
 use Rattle.rwc_reports.specs.Jobs.{Job}
 use Rattle.rwc_reports.specs.Runs.{ended, spent, printed_line, after_line, end_text}
 use Rattle.rwc_reports.proofs.worked_runs.Goals as goal

@@ -1,4 +1,4 @@
-use Rattle.std.proofs.Common.{ℕ, List, [], ◌∷◌, inl, inr, refl, ap, sym, subst}
+use Rattle.std.proofs.Common.{ℕ, List, [], ◌∷◌, inl, inr, refl, subst}
 use Rattle.rwc.proofs.Endings.{stopped, delivered, finished_zero, write_rose_from}
 use Rattle.rwc.specs.Stops.{status_of, line_of, bytes_of}
 use Rattle.words.specs.Commands.{spelled_source}

@@ -1,5 +1,5 @@
 -- A first violation of today's modules tells no type.
-use Rattle.std.proofs.Common.{◌≡◌, List, ℕ, refl, ap, sym, ◌∙◌, subst, Ok, Err, None}
+use Rattle.std.proofs.Common.{◌≡◌, List, ℕ, ap, sym, ◌∙◌, Ok, Err, None}
 use Rattle.std.specs.Prelude.{codes}
 use Rattle.rich_typing.specs.Violations.{Violation, FirstViolation}
 use Rattle.rich_typing.proofs.LoneModules.{lone_refused}

@@ -1,5 +1,5 @@
 -- Each step stops the way to a binary with its refusal, or goes on with its value.
-use Rattle.std.proofs.Common.{ℕ, List, [], ◌∷◌, inl, inr, refl, sym, subst, Ok, Err}
+use Rattle.std.proofs.Common.{ℕ, List, inl, inr, refl, sym, subst, Ok}
 use Rattle.rw_program.specs.Modules.{TypedModule}
 use Rattle.rw_types.specs.declared.modules.Module.{Module}
 use Rattle.wasm_ast.specs.declared.modules.WModule.{WModule}
@@ -12,7 +12,7 @@ use Rattle.rwc_reports.proofs.Steps.{not_both}
 use Rattle.rwc_reports.proofs.OneFile.{stopped_load, stopped_text, stopped_check, goes_to}
 use Rattle.rwc_reports.specs.Binaries.{ProgramLowers, ModuleEncodes}
 use Rattle.rwc_reports.specs.Sources.{FileLoads, TextReads, ModuleChecks}
-use Rattle.rwc_reports.specs.Steps.{Refused, goes_on}
+use Rattle.rwc_reports.specs.Steps.{goes_on}
 use Rattle.rwc.proofs.compile.compile.Goals as goal
 
 pub returns-in_err-text : goal.returns-in_err-text

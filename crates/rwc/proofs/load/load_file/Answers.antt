@@ -1,6 +1,6 @@
 -- Each answer of a load, as a step.
 use Rattle.std.proofs.Common.{refl, inl}
-use Rattle.rwc.proofs.Loading.{no_memory, load_refused, load_failed}
+use Rattle.rwc.proofs.Loading.{load_refused, load_failed}
 use Rattle.rwc_reports.specs.Sources.{loaded, missing, too_long}
 use Rattle.rwc.proofs.load.load_file.Goals as goal
 

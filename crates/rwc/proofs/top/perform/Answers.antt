@@ -1,4 +1,4 @@
-use Rattle.std.proofs.Common.{map, string_bytes, refl, ap, subst, Some, None}
+use Rattle.std.proofs.Common.{map, string_bytes, refl, subst}
 use Rattle.std.specs.declared.option.Option.{Option}
 use Rattle.std.specs.Option.{option_map}
 use Rattle.words.specs.declared.Command.{Command}
