@@ -13,38 +13,38 @@ use Rattle.wasm_operands.specs.Taking.{nothing}
 
 -- how far tokens go: to open lists at a place, or to a place where a rule is broken
 pub data Judged : Type 0 where
-  Reached : List (Open Seen) → ℕ → Judged
-  Refused : ℕ → WRule → Judged
-  Lost : Judged
+  StandsAt : List (Open Seen) → ℕ → Judged
+  ViolatedAt : ℕ → WRule → Judged
+  NoList : Judged
 
 abbrev pub of_shape : Shape → Seen → Open Seen
 of_shape shape seen = record { shape = shape; operands = seen }
 
 abbrev pub on_check : Result (List (Open Seen)) WRule → ℕ → (List (Open Seen) → Judged) → Judged
-on_check (Err r) at go = Refused at r
+on_check (Err r) at go = ViolatedAt at r
 on_check (Ok mid) at go = go mid
 
 module _ (C : Context) where
   abbrev pub judge : List Token → List (Open Seen) → ℕ → Judged
-  judge [] as' at = Reached as' at
-  judge (t ∷ ts) [] at = Lost
+  judge [] as' at = StandsAt as' at
+  judge (t ∷ ts) [] at = NoList
   judge (t ∷ ts) (a ∷ as') at = on_check (check C t (a ∷ as')) at (λ mid. judge ts mid (at + 1))
 
   -- tokens go from these operands at one place to those at another, whatever list they stand in
-  pub record Goes (ls : Labels) (ts : List Token) (before : Seen) (from : ℕ) (after : Seen) (to : ℕ) : Type 0 where
-    pub goes : (shape : Shape) (around : List (Open Seen)) → ls ≡ label_of shape ∷ labels around → judge ts (of_shape shape before ∷ around) from ≡ Reached (of_shape shape after ∷ around) to
+  pub record TypesTo (ls : Labels) (ts : List Token) (before : Seen) (from : ℕ) (after : Seen) (to : ℕ) : Type 0 where
+    pub goes : (shape : Shape) (around : List (Open Seen)) → ls ≡ label_of shape ∷ labels around → judge ts (of_shape shape before ∷ around) from ≡ StandsAt (of_shape shape after ∷ around) to
 
   -- a rule is broken at this place
-  pub record Breaks (ls : Labels) (ts : List Token) (before : Seen) (from at : ℕ) (rule : WRule) : Type 0 where
-    pub breaks : (shape : Shape) (around : List (Open Seen)) → ls ≡ label_of shape ∷ labels around → judge ts (of_shape shape before ∷ around) from ≡ Refused at rule
+  pub record Violates (ls : Labels) (ts : List Token) (before : Seen) (from at : ℕ) (rule : WRule) : Type 0 where
+    pub breaks : (shape : Shape) (around : List (Open Seen)) → ls ≡ label_of shape ∷ labels around → judge ts (of_shape shape before ∷ around) from ≡ ViolatedAt at rule
 
   -- tokens go from nothing to operands that the end of a list demands
-  pub record Ends (ls : Labels) (result : Option ValTy) (ts : List Token) (from to : ℕ) : Type 0 where
+  pub record TypesList (ls : Labels) (result : Option ValTy) (ts : List Token) (from to : ℕ) : Type 0 where
     pub after : Seen
-    pub goes : Goes ls ts nothing from after to
+    pub goes : TypesTo ls ts nothing from after to
     pub fit : fits (option_to_list result) after.known after.any ≡ true
 
   -- or a rule is broken on the way, or they go to other operands
-  abbrev pub BreaksEnd : Labels → Option ValTy → List Token → ℕ → ℕ → WRule → Type 0
-  BreaksEnd ls result ts from at rule =
-      Breaks ls ts nothing from at rule ⊎ ((after : Seen) × Goes ls ts nothing from after at × (fits (option_to_list result) after.known after.any ≡ false) × (rule ≡ EndOperands))
+  abbrev pub ViolatesList : Labels → Option ValTy → List Token → ℕ → ℕ → WRule → Type 0
+  ViolatesList ls result ts from at rule =
+      Violates ls ts nothing from at rule ⊎ ((after : Seen) × TypesTo ls ts nothing from after at × (fits (option_to_list result) after.known after.any ≡ false) × (rule ≡ EndOperands))

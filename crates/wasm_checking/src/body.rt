@@ -3,7 +3,7 @@ ghost use Rattle.wasm_typing.specs.Typing.{IsTypedBody};
 ghost use Rattle.wasm_typing.specs.Violations.{IsFirstViolation};
 ghost use Rattle.wasm_typing.specs.Tokens.{tokens_of, OpensBlock, OpensLoop, OpensIf, Else, End};
 ghost use Rattle.wasm_operands.specs.Taking.{seen_of};
-ghost use Rattle.wasm_checking.specs.Judging.{Goes, Breaks, Ends, BreaksEnd};
+ghost use Rattle.wasm_checking.specs.Judging.{TypesTo, Violates, TypesList, ViolatesList};
 
 use std::alloc::Global;
 use wasm_ast::{OperationRef, ValTy, WInstr};
@@ -35,9 +35,9 @@ fn check_list(
     top: &mut Operands,
     xs: &[WInstr],
 ) -> Result<(), Stop>
-    ensures goes { OnOk result (Goes c.now labels.old (flat_map tokens_of xs.now) (seen_of top.old) at.old (seen_of top.new) at.new) }
+    ensures goes { OnOk result (TypesTo c.now labels.old (flat_map tokens_of xs.now) (seen_of top.old) at.old (seen_of top.new) at.new) }
     ensures same { OnOk result (labels.new ≡ labels.old) }
-    ensures broken { (r : _) → IsErrOf result (Stop.Broken r) → Breaks c.now labels.old (flat_map tokens_of xs.now) (seen_of top.old) at.old at.new r }
+    ensures broken { (r : _) → IsErrOf result (Stop.Broken r) → Violates c.now labels.old (flat_map tokens_of xs.now) (seen_of top.old) at.old at.new r }
 {
     for x in xs {
         check_one(alloc, c, labels, at, top, x)?;
@@ -55,9 +55,9 @@ fn check_one(
     top: &mut Operands,
     x: &WInstr,
 ) -> Result<(), Stop>
-    ensures goes { OnOk result (Goes c.now labels.old (tokens_of x.now) (seen_of top.old) at.old (seen_of top.new) at.new) }
+    ensures goes { OnOk result (TypesTo c.now labels.old (tokens_of x.now) (seen_of top.old) at.old (seen_of top.new) at.new) }
     ensures same { OnOk result (labels.new ≡ labels.old) }
-    ensures broken { (r : _) → IsErrOf result (Stop.Broken r) → Breaks c.now labels.old (tokens_of x.now) (seen_of top.old) at.old at.new r }
+    ensures broken { (r : _) → IsErrOf result (Stop.Broken r) → Violates c.now labels.old (tokens_of x.now) (seen_of top.old) at.old at.new r }
 {
     match x.operation() {
         OperationRef::Block(t, xs) => check_block(alloc, c, labels, at, top, t, xs),
@@ -82,9 +82,9 @@ fn check_arm(
     ty: Option<ValTy>,
     xs: &[WInstr],
 ) -> Result<(), Stop>
-    ensures ends { OnOk result (Ends c.now (label ∷ labels.old) ty (flat_map tokens_of xs.now) at.old at.new) }
+    ensures ends { OnOk result (TypesList c.now (label ∷ labels.old) ty (flat_map tokens_of xs.now) at.old at.new) }
     ensures same { OnOk result (labels.new ≡ labels.old) }
-    ensures broken { (r : _) → IsErrOf result (Stop.Broken r) → BreaksEnd c.now (label ∷ labels.old) ty (flat_map tokens_of xs.now) at.old at.new r }
+    ensures broken { (r : _) → IsErrOf result (Stop.Broken r) → ViolatesList c.now (label ∷ labels.old) ty (flat_map tokens_of xs.now) at.old at.new r }
 {
     labels.push(label)?;
     let mut inner = Operands::new(alloc);
@@ -107,9 +107,9 @@ fn check_block(
     t: Option<ValTy>,
     xs: &[WInstr],
 ) -> Result<(), Stop>
-    ensures goes { OnOk result (Goes c.now labels.old (OpensBlock t ∷ (flat_map tokens_of xs.now ++ End ∷ [])) (seen_of top.old) at.old (seen_of top.new) at.new) }
+    ensures goes { OnOk result (TypesTo c.now labels.old (OpensBlock t ∷ (flat_map tokens_of xs.now ++ End ∷ [])) (seen_of top.old) at.old (seen_of top.new) at.new) }
     ensures same { OnOk result (labels.new ≡ labels.old) }
-    ensures broken { (r : _) → IsErrOf result (Stop.Broken r) → Breaks c.now labels.old (OpensBlock t ∷ (flat_map tokens_of xs.now ++ End ∷ [])) (seen_of top.old) at.old at.new r }
+    ensures broken { (r : _) → IsErrOf result (Stop.Broken r) → Violates c.now labels.old (OpensBlock t ∷ (flat_map tokens_of xs.now ++ End ∷ [])) (seen_of top.old) at.old at.new r }
 {
     advance(at)?;
     check_arm(alloc, c, labels, at, t, t, xs)?;
@@ -127,9 +127,9 @@ fn check_loop(
     t: Option<ValTy>,
     xs: &[WInstr],
 ) -> Result<(), Stop>
-    ensures goes { OnOk result (Goes c.now labels.old (OpensLoop t ∷ (flat_map tokens_of xs.now ++ End ∷ [])) (seen_of top.old) at.old (seen_of top.new) at.new) }
+    ensures goes { OnOk result (TypesTo c.now labels.old (OpensLoop t ∷ (flat_map tokens_of xs.now ++ End ∷ [])) (seen_of top.old) at.old (seen_of top.new) at.new) }
     ensures same { OnOk result (labels.new ≡ labels.old) }
-    ensures broken { (r : _) → IsErrOf result (Stop.Broken r) → Breaks c.now labels.old (OpensLoop t ∷ (flat_map tokens_of xs.now ++ End ∷ [])) (seen_of top.old) at.old at.new r }
+    ensures broken { (r : _) → IsErrOf result (Stop.Broken r) → Violates c.now labels.old (OpensLoop t ∷ (flat_map tokens_of xs.now ++ End ∷ [])) (seen_of top.old) at.old at.new r }
 {
     advance(at)?;
     check_arm(alloc, c, labels, at, None, t, xs)?;
@@ -147,9 +147,9 @@ fn check_if(
     t: Option<ValTy>,
     xs: &[WInstr],
 ) -> Result<(), Stop>
-    ensures goes { OnOk result (Goes c.now labels.old (OpensIf t ∷ (flat_map tokens_of xs.now ++ End ∷ [])) (seen_of top.old) at.old (seen_of top.new) at.new) }
+    ensures goes { OnOk result (TypesTo c.now labels.old (OpensIf t ∷ (flat_map tokens_of xs.now ++ End ∷ [])) (seen_of top.old) at.old (seen_of top.new) at.new) }
     ensures same { OnOk result (labels.new ≡ labels.old) }
-    ensures broken { (r : _) → IsErrOf result (Stop.Broken r) → Breaks c.now labels.old (OpensIf t ∷ (flat_map tokens_of xs.now ++ End ∷ [])) (seen_of top.old) at.old at.new r }
+    ensures broken { (r : _) → IsErrOf result (Stop.Broken r) → Violates c.now labels.old (OpensIf t ∷ (flat_map tokens_of xs.now ++ End ∷ [])) (seen_of top.old) at.old at.new r }
 {
     top.take(ValTy::I32)?;
     advance(at)?;
@@ -171,9 +171,9 @@ fn check_if_else(
     xs: &[WInstr],
     ys: &[WInstr],
 ) -> Result<(), Stop>
-    ensures goes { OnOk result (Goes c.now labels.old (OpensIf t ∷ (flat_map tokens_of xs.now ++ (Else ∷ (flat_map tokens_of ys.now ++ End ∷ [])))) (seen_of top.old) at.old (seen_of top.new) at.new) }
+    ensures goes { OnOk result (TypesTo c.now labels.old (OpensIf t ∷ (flat_map tokens_of xs.now ++ (Else ∷ (flat_map tokens_of ys.now ++ End ∷ [])))) (seen_of top.old) at.old (seen_of top.new) at.new) }
     ensures same { OnOk result (labels.new ≡ labels.old) }
-    ensures broken { (r : _) → IsErrOf result (Stop.Broken r) → Breaks c.now labels.old (OpensIf t ∷ (flat_map tokens_of xs.now ++ (Else ∷ (flat_map tokens_of ys.now ++ End ∷ [])))) (seen_of top.old) at.old at.new r }
+    ensures broken { (r : _) → IsErrOf result (Stop.Broken r) → Violates c.now labels.old (OpensIf t ∷ (flat_map tokens_of xs.now ++ (Else ∷ (flat_map tokens_of ys.now ++ End ∷ [])))) (seen_of top.old) at.old at.new r }
 {
     top.take(ValTy::I32)?;
     advance(at)?;

@@ -2,7 +2,7 @@ use Rattle.std.proofs.Common.{◌≡◌, ◌+◌, ◌*◌, take, sum_by}
 use Rattle.std.specs.List.{flat_map}
 use Rattle.wasm_ast.proofs.Counts.{instruction_count}
 use Rattle.wasm_typing.specs.Tokens.{tokens_of}
-use Rattle.wasm_checking.specs.Judging.{Goes}
+use Rattle.wasm_checking.specs.Judging.{TypesTo}
 use Rattle.wasm_operands.specs.Taking.{seen_of}
 use Rattle.wasm_checking.proofs.body.+body.Given as goal
 
@@ -29,6 +29,6 @@ decreases-check_list l = 4 * sum_by instruction_count l.xs.now + 1
 
 abbrev pub invariant-check_list-loop-x : goal.invariant-check_list-loop-x
 invariant-check_list-loop-x l = record {
-  gone : Goes l.c l.initial.labels (flat_map tokens_of (take l.x-index l.xs)) (seen_of l.initial.top) l.initial.at (seen_of l.top) l.at;
+  gone : TypesTo l.c l.initial.labels (flat_map tokens_of (take l.x-index l.xs)) (seen_of l.initial.top) l.initial.at (seen_of l.top) l.at;
   same : l.labels ≡ l.initial.labels;
 }
