@@ -7,7 +7,7 @@ use Rattle.wasm_ast.specs.declared.instructions.WInstr.{WInstr, out-WInstr, roll
 use Rattle.wasm_ast.specs.declared.instructions.WInstr.TheFolds.{map-WInstr}
 use Rattle.wasm_ast.specs.declared.instructions.WInstr.TheOpen.{WInstr-F}
 use Rattle.wasm_ast.specs.declared.instructions.WInstr.TheVariants as v
-use Rattle.wasm_typing.specs.Contexts.{Context}
+use Rattle.wasm_typing.specs.declared.context.Context.{Context}
 use Rattle.wasm_typing.specs.Typing.{Labels}
 use Rattle.wasm_typing.specs.Rows.{lone_context, WorkedHeights}
 use Rattle.wasm_typing.specs.Heights.{Met, met_then, met_list, met_block, met_in, met_of}

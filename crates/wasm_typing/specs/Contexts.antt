@@ -1,5 +1,5 @@
 -- What instructions are typed under (WebAssembly Core Specification 1.0, section 3.1.1). Labels stand apart.
-use Rattle.std.specs.Prelude.{ℕ, Bool, List, [], ◌∷◌, ◌++◌, Option, None, ◌+◌, length, map, replicate, flat_map, slice_get, option_to_list}
+use Rattle.std.specs.Prelude.{ℕ, List, [], ◌∷◌, ◌++◌, None, ◌+◌, length, map, replicate, flat_map, slice_get, option_to_list}
 use Rattle.wasm_ast.specs.declared.types.FuncType.{FuncType}
 use Rattle.wasm_ast.specs.declared.types.ValTy.{ValTy}
 use Rattle.wasm_ast.specs.declared.modules.Code.{Code}
@@ -9,22 +9,8 @@ use Rattle.wasm_ast.specs.declared.modules.ImportKind.TheVariants.{Func, Table, 
 use Rattle.wasm_ast.specs.declared.modules.LocalRun.{LocalRun}
 use Rattle.wasm_ast.specs.declared.modules.WGlobal.{WGlobal}
 use Rattle.wasm_ast.specs.declared.modules.WModule.{WModule}
-
--- the type of a global: that of its value, and whether it may be set (2.3.6)
-pub record GlobalType : Type 0 where
-  pub ty : ValTy
-  pub mutable : Bool
-
--- types, the types of all functions, how many tables and memories there are, the types of all globals, and of the
--- function that is typed its locals and its result
-pub record Context : Type 0 where
-  pub types : List FuncType
-  pub functions : List FuncType
-  pub tables : ℕ
-  pub memories : ℕ
-  pub globals : List GlobalType
-  pub locals : List ValTy
-  pub result : Option ValTy
+use Rattle.wasm_typing.specs.declared.context.Context.{Context}
+use Rattle.wasm_typing.specs.declared.context.GlobalType.{GlobalType}
 
 -- the type of an imported function, where its index is there
 abbrev pub function_type : List FuncType → ImportKind → List FuncType

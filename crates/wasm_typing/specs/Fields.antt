@@ -20,7 +20,9 @@ use Rattle.wasm_ast.specs.declared.modules.ImportKind.TheVariants as import_kind
 use Rattle.wasm_ast.specs.declared.modules.WGlobal.{WGlobal}
 use Rattle.wasm_typing.specs.declared.rule.WRule.{WRule}
 use Rattle.wasm_typing.specs.declared.rule.WRule.TheVariants.{TypeIndex, FuncIndex, TableIndex, MemoryIndex, GlobalIndex, ManyTables, ManyMemories, LimitsOrder, ConstExpr, EndOperands, DuplicateExport, StartType}
-use Rattle.wasm_typing.specs.Contexts.{Context, GlobalType, imported_memories, imported_tables}
+use Rattle.wasm_typing.specs.declared.context.Context.{Context}
+use Rattle.wasm_typing.specs.declared.context.GlobalType.{GlobalType}
+use Rattle.wasm_typing.specs.Contexts.{imported_memories, imported_tables}
 use Rattle.wasm_typing.specs.Signatures.{same_type}
 
 -- the rule, where this does not hold

@@ -5,7 +5,7 @@ use Rattle.wasm_ast.specs.declared.types.ValTy.{ValTy}
 use Rattle.wasm_ast.specs.declared.instructions.WInstr.{WInstr, fold-WInstr}
 use Rattle.wasm_ast.specs.declared.instructions.WInstr.TheOpen.{WInstr-F}
 use Rattle.wasm_typing.specs.declared.rule.WRule.{WRule}
-use Rattle.wasm_typing.specs.Contexts.{Context}
+use Rattle.wasm_typing.specs.declared.context.Context.{Context}
 use Rattle.wasm_typing.specs.Signatures.{Left, Gives, Anything, Signature, signature_in}
 use Rattle.wasm_typing.specs.Typing.{Labels}
 

@@ -5,7 +5,8 @@ use Rattle.wasm_ast.specs.declared.types.FuncType.{FuncType}
 use Rattle.wasm_ast.specs.declared.modules.Code.{Code}
 use Rattle.wasm_ast.specs.declared.modules.WModule.{WModule}
 use Rattle.wasm_typing.specs.declared.rule.WRule.{WRule}
-use Rattle.wasm_typing.specs.Contexts.{Context, body_context, context_of, imported_functions, imported_globals, imported_memories, imported_tables}
+use Rattle.wasm_typing.specs.declared.context.Context.{Context}
+use Rattle.wasm_typing.specs.Contexts.{body_context, context_of, imported_functions, imported_globals, imported_memories, imported_tables}
 use Rattle.wasm_typing.specs.Fields.{element_rule, export_rule, function_rule, global_rule, import_rule, memory_rule, segment_rule, start_rule, table_rule}
 use Rattle.wasm_typing.specs.Typing.{IsTypedBody}
 use Rattle.wasm_typing.specs.Violations.{IsFirstViolation}

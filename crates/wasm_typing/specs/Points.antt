@@ -5,7 +5,7 @@ use Rattle.wasm_ast.specs.declared.types.ValTy.{ValTy}
 use Rattle.wasm_ast.specs.declared.instructions.WInstr.{WInstr}
 use Rattle.wasm_ast.specs.Operations.{Operation, operation_in}
 use Rattle.wasm_ast.specs.Operations as op
-use Rattle.wasm_typing.specs.Contexts.{Context}
+use Rattle.wasm_typing.specs.declared.context.Context.{Context}
 use Rattle.wasm_typing.specs.Tokens.{Token, Plain, OpensBlock, OpensLoop, OpensIf, Else, End, code_of}
 use Rattle.wasm_typing.specs.ByteOrder.{Open, Leads, start}
 

@@ -12,7 +12,7 @@ use Rattle.wasm_ast.specs.declared.types.Limits.{Limits}
 use Rattle.wasm_ast.specs.declared.modules.WModule.{WModule}
 use Rattle.wasm_typing.specs.declared.rule.WRule.{WRule}
 use Rattle.wasm_typing.specs.declared.rule.WRule.TheVariants.{TypeIndex, FuncIndex, TableIndex, MemoryIndex, GlobalIndex, ManyTables, ManyMemories, LimitsOrder, ConstExpr, EndOperands, DuplicateExport, StartType}
-use Rattle.wasm_typing.specs.Contexts.{Context}
+use Rattle.wasm_typing.specs.declared.context.Context.{Context}
 use Rattle.wasm_typing.specs.Heights.{height_of}
 use Rattle.wasm_typing.specs.Modules.{fault_before_codes, fault_behind_codes}
 

@@ -3,8 +3,10 @@
 //! and the height of a body. `worked_heights` and `worked_faults` are computed rows; `wasm_typing_laws` has the laws.
 #![tactic(auto)]
 
+mod context;
 mod rows;
 mod rule;
 
+pub use context::{Context, GlobalType};
 pub use rows::{worked_faults, worked_heights};
 pub use rule::WRule;

@@ -7,7 +7,7 @@ use Rattle.wasm_ast.specs.declared.instructions.WInstr.TheOpen.{WInstr-F}
 use Rattle.wasm_ast.specs.Immediates.{immediate_in}
 use Rattle.wasm_ast.proofs.Counts.{instruction_count, immediate_count, instruction_count-layer}
 use Rattle.wasm_typing.specs.declared.rule.WRule.{WRule}
-use Rattle.wasm_typing.specs.Contexts.{Context}
+use Rattle.wasm_typing.specs.declared.context.Context.{Context}
 use Rattle.wasm_typing.specs.Tokens.{Token, OpensBlock, OpensLoop, OpensIf, Else, End, tokens_in, tokens_of, code_of}
 use Rattle.wasm_typing.specs.Typing.{IsTypedBody}
 use Rattle.wasm_typing.specs.Places.{open_behind, opened}

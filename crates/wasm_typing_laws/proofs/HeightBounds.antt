@@ -11,7 +11,7 @@ use Rattle.wasm_ast.specs.Immediates.{immediate_in}
 use Rattle.wasm_ast.specs.Operations.{operation_in}
 use Rattle.wasm_ast.proofs.Counts.{instruction_count, immediate_count, instruction_count-layer}
 use Rattle.wasm_typing.specs.declared.rule.WRule.{WRule}
-use Rattle.wasm_typing.specs.Contexts.{Context}
+use Rattle.wasm_typing.specs.declared.context.Context.{Context}
 use Rattle.wasm_typing.specs.Signatures.{Left, Gives, Anything, Signature, signature_in}
 use Rattle.wasm_typing.specs.Typing.{Applies, Labels}
 use Rattle.wasm_typing.specs.Tokens.{Token, Plain, Else, End, bare, tokens_in, tokens_of, code_of}

@@ -7,7 +7,7 @@ use Rattle.wasm_ast.specs.declared.instructions.WInstr.{WInstr, out-WInstr}
 use Rattle.wasm_ast.specs.declared.instructions.WInstr.TheOpen.{WInstr-F}
 use Rattle.wasm_ast.specs.Operations.{operation_in}
 use Rattle.wasm_typing.specs.declared.rule.WRule.{WRule}
-use Rattle.wasm_typing.specs.Contexts.{Context}
+use Rattle.wasm_typing.specs.declared.context.Context.{Context}
 use Rattle.wasm_typing.specs.Signatures.{Left, Gives, Anything, Signature, signature_in}
 use Rattle.wasm_typing.specs.Typing.{Applies, Labels, IsTyped, AreTyped, plain, block, loop, one_arm, two_arms, none, more, IsTypedBody}
 use Rattle.wasm_typing.specs.Tokens.{Token, Plain, OpensBlock, OpensLoop, OpensIf, Else, End, bare, tokens_in, tokens_of}

@@ -8,7 +8,7 @@ use Rattle.wasm_ast.specs.declared.instructions.WInstr.{WInstr, out-WInstr, roll
 use Rattle.wasm_ast.specs.declared.instructions.WInstr.TheOpen.{WInstr-F}
 use Rattle.wasm_ast.specs.Immediates.{immediate_in}
 use Rattle.wasm_ast.proofs.Counts.{instruction_count, immediate_count, instruction_count-layer}
-use Rattle.wasm_typing.specs.Contexts.{Context}
+use Rattle.wasm_typing.specs.declared.context.Context.{Context}
 use Rattle.wasm_typing.specs.Signatures.{signature_in}
 use Rattle.wasm_typing.specs.Typing.{Labels, IsTyped, AreTyped, plain, block, loop, one_arm, two_arms, none, more, IsTypedBody}
 use Rattle.wasm_typing.specs.Tokens.{Token, Plain, OpensBlock, OpensLoop, OpensIf, Else, End, bare, tokens_in, tokens_of, code_of}

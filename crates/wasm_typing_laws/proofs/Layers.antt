@@ -4,7 +4,7 @@ use Rattle.std.specs.Prelude.{Ok, flat_map}
 use Rattle.wasm_ast.specs.declared.instructions.WInstr.{WInstr, out-WInstr, roll-WInstr, out-roll-WInstr, fold_out-WInstr, Nop}
 use Rattle.wasm_ast.specs.declared.instructions.WInstr.TheFolds.{map-WInstr}
 use Rattle.wasm_ast.specs.declared.instructions.WInstr.TheOpen.{WInstr-F}
-use Rattle.wasm_typing.specs.Contexts.{Context}
+use Rattle.wasm_typing.specs.declared.context.Context.{Context}
 use Rattle.wasm_typing.specs.Signatures.{Signature, signature_in}
 use Rattle.wasm_typing.specs.Typing.{Labels}
 use Rattle.wasm_typing.specs.Tokens.{Token, Plain, OpensBlock, OpensLoop, OpensIf, Else, End, Bare, bare, tokens_in, tokens_of}

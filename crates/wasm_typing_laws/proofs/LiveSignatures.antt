@@ -9,7 +9,7 @@ use Rattle.wasm_ast.specs.Operations as op
 use Rattle.wasm_operators.specs.declared.CvtOp.TheVariants as convert
 use Rattle.wasm_typing.specs.declared.rule.WRule.{WRule}
 use Rattle.wasm_typing.specs.declared.rule.WRule.TheVariants.{TypeIndex, FuncIndex, TableIndex, MemoryIndex, GlobalIndex, LocalIndex, LabelIndex, ConstGlobal, Alignment, LabelTypes}
-use Rattle.wasm_typing.specs.Contexts.{Context}
+use Rattle.wasm_typing.specs.declared.context.Context.{Context}
 use Rattle.wasm_typing.specs.Signatures.{Slot, The, Same, Left, Gives, Anything, Signature, ◌⇒◌, leaves, operands_of, found, needs, all_of, all_same, in_memory, signature_of}
 use Rattle.wasm_typing.specs.Typing.{Labels, fill, IsLeft, Applies}
 use Rattle.wasm_typing.specs.Heights.{count}

@@ -5,7 +5,8 @@ use Rattle.wasm_ast.specs.declared.types.FuncType.{FuncType}
 use Rattle.wasm_ast.specs.declared.modules.Code.{Code}
 use Rattle.wasm_ast.specs.declared.modules.WModule.{WModule}
 use Rattle.wasm_typing.specs.declared.rule.WRule.{WRule}
-use Rattle.wasm_typing.specs.Contexts.{Context, body_context, context_of}
+use Rattle.wasm_typing.specs.declared.context.Context.{Context}
+use Rattle.wasm_typing.specs.Contexts.{body_context, context_of}
 use Rattle.wasm_typing.specs.Typing.{IsTypedBody}
 use Rattle.wasm_typing.specs.Violations.{IsFirstViolation}
 use Rattle.wasm_typing.specs.Modules.{fault_before_codes, fault_behind_codes, HasBody, BodiesAreTypedBefore, IsValid, Violation, outside, FirstViolation, before_codes, in_code, behind_codes, function_imports}

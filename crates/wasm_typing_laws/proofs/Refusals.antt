@@ -8,7 +8,7 @@ use Rattle.wasm_ast.specs.declared.types.ValTy.TheVariants.{I32}
 use Rattle.wasm_ast.specs.declared.instructions.WInstr.{WInstr}
 use Rattle.wasm_typing.specs.declared.rule.WRule.{WRule}
 use Rattle.wasm_typing.specs.declared.rule.WRule.TheVariants.{OperandMissing, OperandType, EndOperands}
-use Rattle.wasm_typing.specs.Contexts.{Context}
+use Rattle.wasm_typing.specs.declared.context.Context.{Context}
 use Rattle.wasm_typing.specs.Signatures.{Slot, The, signature_in}
 use Rattle.wasm_typing.specs.Typing.{fill, Labels, IsTypedBody}
 use Rattle.wasm_typing.specs.Tokens.{Token, Plain, OpensBlock, OpensLoop, OpensIf, Else, End, code_of}

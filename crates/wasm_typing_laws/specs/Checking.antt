@@ -4,7 +4,7 @@ use Rattle.wasm_ast.specs.declared.types.ValTy.{ValTy}
 use Rattle.wasm_ast.specs.declared.types.ValTy.TheVariants.{I32}
 use Rattle.wasm_typing.specs.declared.rule.WRule.{WRule}
 use Rattle.wasm_typing.specs.declared.rule.WRule.TheVariants.{OperandMissing, OperandType, EndOperands}
-use Rattle.wasm_typing.specs.Contexts.{Context}
+use Rattle.wasm_typing.specs.declared.context.Context.{Context}
 use Rattle.wasm_typing.specs.Signatures.{Slot, The, Same, Left, Gives, Anything, signature_in, same_type}
 use Rattle.wasm_typing.specs.Tokens.{Token, Plain, OpensBlock, OpensLoop, OpensIf, Else, End}
 use Rattle.wasm_typing.specs.ByteOrder.{Shape, Straight, Again, FirstArm, Open, labels, result_of, put}

@@ -3,7 +3,7 @@ use Rattle.std.specs.Prelude.{◌≡◌, ◌↔◌, ◌⊎◌, ℕ, List, [], Ok
 use Rattle.wasm_ast.specs.declared.instructions.WInstr.{WInstr}
 use Rattle.wasm_ast.specs.declared.modules.WModule.{WModule}
 use Rattle.wasm_typing.specs.declared.rule.WRule.{WRule}
-use Rattle.wasm_typing.specs.Contexts.{Context}
+use Rattle.wasm_typing.specs.declared.context.Context.{Context}
 use Rattle.wasm_typing.specs.Typing.{IsTypedBody}
 use Rattle.wasm_typing.specs.Tokens.{Token, code_of}
 use Rattle.wasm_typing.specs.Places.{HasDerivation, IsFirstPlace, closed}
