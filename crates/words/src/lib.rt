@@ -14,8 +14,8 @@ mod numbers;
 mod options;
 mod plain;
 
-use by_clap::read_by_clap;
-use clap::error::ErrorKind;
+use by_clap::command_of;
+use clap_words::read_by_clap;
 pub use laws::{a_command_or_none, one_command, source_files};
 use plain::plain_command;
 use std::alloc::{AllocError, Global};
@@ -66,9 +66,8 @@ pub fn read_words<'a>(alloc: Global, words: &'a [String]) -> Result<Option<Comma
     let Some(plain) = plain_command(words) else {
         return Ok(None);
     };
-    match read_by_clap(alloc, words) {
-        Ok(Some(read)) if is_same(&read, &plain) => Ok(Some(read)),
-        Err(error) if error.kind() == ErrorKind::OutOfMemory => Err(AllocError),
+    match read_by_clap(alloc, words)?.and_then(command_of) {
+        Some(read) if is_same(&read, &plain) => Ok(Some(read)),
         _ => Ok(Some(plain)),
     }
 }
