@@ -1,4 +1,6 @@
-//! The words of the command line: the plain form is tested here, and `clap` reads the words that have it.
+//! The words of the command line: the plain form is read here, and `clap` reads the words that have it a second time.
+//! Definitions: the words that spell a command (specs/Words.antt), the names of source files (specs/Sources.antt).
+//! Laws: words spell one command at most, or none; which names are source files.
 #![tactic(auto)]
 
 ghost use Rattle.std.specs.Prelude.{◌≡◌, ◌↔◌, map, string_bytes, IfOk, IfSome, IsTrue};
