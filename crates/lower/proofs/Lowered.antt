@@ -1,6 +1,5 @@
 -- The lowered module of a program of one function, part by part.
 use Rattle.std.proofs.Common.{◌≡◌, List, [], ap, sym, ◌∙◌, get_or, arith}
-use Rattle.wasm_ast.specs.declared.modules.WModule.{WModule}
 use Rattle.rw_program.specs.declared.linked.LinkedFunc.{LinkedFunc}
 use Rattle.rw_program.specs.LonePrograms.{IsLoneProgram, lone_func, lone_program}
 use Rattle.rw_program.specs.Programs.{Program}
@@ -29,21 +28,3 @@ low_module_of p fs f pages h all at =
     ap (λ (q : Program). low_module q pages) h.is
     ∙ (let l : low_module (lone_program h.body h.notes) pages ≡ lone_module (lone_func h.body h.notes) pages = low_module-plain h.body h.notes pages h.plain in l)
     ∙ ap (λ (g : LinkedFunc). lone_module g pages) (sym (func_of p fs f h all at))
-
--- modules with equal parts are equal
-pub same_module : (a b : WModule) → a.types ≡ b.types → a.imports ≡ b.imports → a.funcs ≡ b.funcs → a.tables ≡ b.tables → a.memories ≡ b.memories → a.globals ≡ b.globals →
-    a.exports ≡ b.exports → a.start ≡ b.start → a.elements ≡ b.elements → a.codes ≡ b.codes → a.segments ≡ b.segments → a ≡ b
-same_module a b types imports funcs tables memories globals exports start elements codes segments =
-    λ i. record {
-      types = types i;
-      imports = imports i;
-      funcs = funcs i;
-      tables = tables i;
-      memories = memories i;
-      globals = globals i;
-      exports = exports i;
-      start = start i;
-      elements = elements i;
-      codes = codes i;
-      segments = segments i;
-    }

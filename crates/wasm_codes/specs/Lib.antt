@@ -1,4 +1,3 @@
-pub mod Stacks
 pub mod Places
 pub mod Sizes
 pub mod OpenLists

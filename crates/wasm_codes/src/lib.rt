@@ -8,7 +8,6 @@ mod function;
 mod laws;
 mod lists;
 mod locals;
-mod stack;
 mod token;
 
 pub use code::CodeState;

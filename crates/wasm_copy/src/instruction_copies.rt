@@ -1,4 +1,4 @@
-ghost use Rattle.std.specs.Prelude.{◌≡◌, IfOk};
+ghost use Rattle.std.specs.Prelude.{◌≡◌, ◌++◌, IfOk, OnOk};
 ghost use Rattle.std.specs.Option.{option_map};
 ghost use Rattle.wasm_ast.specs.declared.instructions.WInstr.{roll-WInstr};
 ghost use Rattle.wasm_ast.specs.Immediates.{Body};
@@ -48,10 +48,23 @@ pub fn copy_instructions(alloc: Global, instructions: &[WInstr]) -> Result<List<
     ensures { IfOk result (λ copied. copied ≡ instructions.now) }
 {
     let mut copied = List::new(alloc);
+    push_copies(alloc, &mut copied, instructions)?;
+    Ok(copied)
+}
+
+/// Puts a copy of each instruction at the end. `AllocError` as above.
+#[cycle(copies)]
+fn push_copies(
+    alloc: Global,
+    copied: &mut List<WInstr>,
+    instructions: &[WInstr],
+) -> Result<(), AllocError>
+    ensures { OnOk result (copied.new ≡ copied.old ++ instructions.now) }
+{
     for instruction in instructions {
         copied.push(copy_instruction(alloc, instruction)?)?;
     }
-    Ok(copied)
+    Ok(())
 }
 
 /// The instruction of this opcode, a result type and one list, if there is one.

@@ -1,4 +1,5 @@
-//! Comparison and copies of trees of WebAssembly modules.
+//! Comparison and copies of trees of WebAssembly modules. It has no definitions of its own, and no laws: two trees are the
+//! same where they are equal, and a copy equals what was copied.
 #![tactic(auto)]
 
 mod entry_comparison;

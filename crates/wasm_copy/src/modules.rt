@@ -1,4 +1,4 @@
-ghost use Rattle.std.specs.Prelude.{◌≡◌, ◌↔◌, IsTrue, IfOk};
+ghost use Rattle.std.specs.Prelude.{◌≡◌, ◌↔◌, IsTrue, IfOk, OnOk};
 
 use crate::trees::{copy_entries, same_entries};
 use std::alloc::{AllocError, Global};
@@ -27,17 +27,37 @@ pub fn same(a: &WModule, b: &WModule) -> bool
 pub fn copy(alloc: Global, m: &WModule) -> Result<WModule, AllocError>
     ensures { IfOk result (λ copied. copied ≡ m.now) }
 {
-    Ok(WModule {
-        types: copy_entries(alloc, m.types.as_slice())?,
-        imports: copy_entries(alloc, m.imports.as_slice())?,
-        funcs: List::from_slice(alloc, m.funcs.as_slice())?,
-        tables: List::from_slice(alloc, m.tables.as_slice())?,
-        memories: List::from_slice(alloc, m.memories.as_slice())?,
-        globals: copy_entries(alloc, m.globals.as_slice())?,
-        exports: copy_entries(alloc, m.exports.as_slice())?,
-        start: m.start,
-        elements: copy_entries(alloc, m.elements.as_slice())?,
-        codes: copy_entries(alloc, m.codes.as_slice())?,
-        segments: copy_entries(alloc, m.segments.as_slice())?,
-    })
+    let mut copied = WModule {
+        types: List::new(alloc),
+        imports: List::new(alloc),
+        funcs: List::new(alloc),
+        tables: List::new(alloc),
+        memories: List::new(alloc),
+        globals: List::new(alloc),
+        exports: List::new(alloc),
+        start: None,
+        elements: List::new(alloc),
+        codes: List::new(alloc),
+        segments: List::new(alloc),
+    };
+    copy_sections(alloc, &mut copied, m)?;
+    Ok(copied)
+}
+
+// Puts a copy of each section in the place of what stands there.
+fn copy_sections(alloc: Global, copied: &mut WModule, m: &WModule) -> Result<(), AllocError>
+    ensures { OnOk result (copied.new ≡ m.now) }
+{
+    copied.types = copy_entries(alloc, m.types.as_slice())?;
+    copied.imports = copy_entries(alloc, m.imports.as_slice())?;
+    copied.funcs = List::from_slice(alloc, m.funcs.as_slice())?;
+    copied.tables = List::from_slice(alloc, m.tables.as_slice())?;
+    copied.memories = List::from_slice(alloc, m.memories.as_slice())?;
+    copied.globals = copy_entries(alloc, m.globals.as_slice())?;
+    copied.exports = copy_entries(alloc, m.exports.as_slice())?;
+    copied.start = m.start;
+    copied.elements = copy_entries(alloc, m.elements.as_slice())?;
+    copied.codes = copy_entries(alloc, m.codes.as_slice())?;
+    copied.segments = copy_entries(alloc, m.segments.as_slice())?;
+    Ok(())
 }

@@ -1,4 +1,4 @@
-ghost use Rattle.std.specs.Prelude.{◌≡◌, ◌↔◌, IsTrue, IfOk};
+ghost use Rattle.std.specs.Prelude.{◌≡◌, ◌↔◌, ◌++◌, IsTrue, IfOk, OnOk};
 
 use std::alloc::{AllocError, Global};
 use wasm_ast::List;
@@ -37,8 +37,20 @@ pub fn copy_entries<T: Duplicate>(alloc: Global, entries: &[T]) -> Result<List<T
     ensures { IfOk result (λ copied. copied ≡ entries.now) }
 {
     let mut copied = List::new(alloc);
+    push_copies(alloc, &mut copied, entries)?;
+    Ok(copied)
+}
+
+// Puts a copy of each entry at the end.
+fn push_copies<T: Duplicate>(
+    alloc: Global,
+    copied: &mut List<T>,
+    entries: &[T],
+) -> Result<(), AllocError>
+    ensures { OnOk result (copied.new ≡ copied.old ++ entries.now) }
+{
     for entry in entries {
         copied.push(entry.duplicate(alloc)?)?;
     }
-    Ok(copied)
+    Ok(())
 }

@@ -4,7 +4,5 @@
 #![tactic(auto)]
 
 mod operands;
-mod stack;
 
 pub use operands::{Operands, Stop, apply, drop_one, leave, select};
-pub use stack::Stack;

@@ -5,8 +5,8 @@ ghost use Rattle.wasm_operands.specs.Taking.{seen_of, needed, applied, TakesAny,
 ghost use Rattle.wasm_typing.specs.declared.rule.WRule.TheVariants.{OperandType};
 ghost use Rattle.wasm_typing_laws.specs.Checking.{fits, meet};
 
-use crate::stack::Stack;
 use std::alloc::{AllocError, Global};
+use top_first_stack::Stack;
 use wasm_ast::ValTy;
 use wasm_typing::WRule;
 

@@ -8,8 +8,9 @@ ghost use Rattle.wasm_operands.specs.Taking.{seen_of};
 ghost use Rattle.wasm_plain_checking.specs.Answers.{plain_checked, IsChecked, IsApplied, AgreeAs};
 
 use std::alloc::Global;
+use top_first_stack::Stack;
 use wasm_ast::{OperationRef, ValTy};
-use wasm_operands::{Operands, Stack, Stop, apply, drop_one, leave, select};
+use wasm_operands::{Operands, Stop, apply, drop_one, leave, select};
 use wasm_operators::CvtOp;
 use wasm_typing::{Context, WRule};
 

@@ -7,7 +7,7 @@ use Rattle.std.specs.declared.option.Option.TheVariants.{None, Some}
 use Rattle.std.specs.Option.{option_map}
 use Rattle.words.specs.Found.{Finds}
 use Rattle.words.specs.Files.{is_plain_name}
-use Rattle.words.specs.Words.{Setting, words_of, values_for, command_word, files_of, HaveFlags, GivesNumber, GivesName, Command, build, dump, Source, IsSourceNamed, SpellsCommand}
+use Rattle.words.specs.Words.{Setting, words_of_settings, values_for, command_word, files_of, HaveFlags, GivesNumber, GivesName, Command, build, dump, Source, IsSourceNamed, SpellsCommand}
 use Rattle.words.specs.Reading.{settings_of, files_after}
 use Rattle.words.proofs.Splitting.{splits, joined}
 
@@ -33,13 +33,13 @@ head_is x y xs ys e = cc
 
 -- the first word is the command's
 pub first_is : (word : List ℕ) (rest : List (List ℕ)) (command : Command) → SpellsCommand (word ∷ rest) command → word ≡ command_word command
-first_is word rest command s = head_is word (command_word command) rest (words_of s.settings ++ files_of command) s.are
+first_is word rest command s = head_is word (command_word command) rest (words_of_settings s.settings ++ files_of command) s.are
 
 -- `build` and such words spell the command
 pub spells_build : (rest : List (List ℕ)) (lin unr : ℕ) (name : List ℕ) (source : Source) → GivesBuild rest lin unr name source → SpellsCommand (codes "build" ∷ rest) (build lin unr name source)
 spells_build rest lin unr name source g = record {
   settings = settings_of rest;
-  are = ap (λ (words : List (List ℕ)). codes "build" ∷ words) (sym (joined rest) ∙ ap (λ (files : List (List ℕ)). words_of (settings_of rest) ++ files) g.file_is);
+  are = ap (λ (words : List (List ℕ)). codes "build" ∷ words) (sym (joined rest) ∙ ap (λ (files : List (List ℕ)). words_of_settings (settings_of rest) ++ files) g.file_is);
   flags = g.flags;
   given = (g.lin_given, g.unr_given, g.name_given);
   files = g.of_source;
@@ -48,7 +48,7 @@ spells_build rest lin unr name source g = record {
 -- and no others do
 pub build_spelled : (word : List ℕ) (rest : List (List ℕ)) (lin unr : ℕ) (name : List ℕ) (source : Source) → SpellsCommand (word ∷ rest) (build lin unr name source) → GivesBuild rest lin unr name source
 build_spelled word rest lin unr name source s =
-    let same = tail_is word (codes "build") rest (words_of s.settings ++ (source.file ∷ [])) s.are in
+    let same = tail_is word (codes "build") rest (words_of_settings s.settings ++ (source.file ∷ [])) s.are in
     let split = splits (codes "-o" ∷ codes "--lin" ∷ codes "--unr" ∷ []) s.settings (source.file ∷ []) refl s.flags (record { options = refl; after = refl }) in
     let options : settings_of rest ≡ s.settings = ap settings_of same ∙ split.options in
     record {
@@ -78,7 +78,7 @@ spells_dump rest file g = record {
 pub dump_spelled : (word : List ℕ) (rest : List (List ℕ)) (file : List ℕ) → SpellsCommand (word ∷ rest) (dump file) → GivesDump rest file
 dump_spelled word rest file s =
     record {
-      file_is = tail_is word (codes "dump") rest (words_of s.settings ++ (file ∷ [])) s.are ∙ ap (λ (settings : List Setting). words_of settings ++ (file ∷ [])) (no_settings s.settings s.flags);
+      file_is = tail_is word (codes "dump") rest (words_of_settings s.settings ++ (file ∷ [])) s.are ∙ ap (λ (settings : List Setting). words_of_settings settings ++ (file ∷ [])) (no_settings s.settings s.flags);
       plain = s.files;
     }
 

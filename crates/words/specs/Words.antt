@@ -16,9 +16,9 @@ pub record Setting : Type 0 where
   pub value : List ℕ
 
 -- the words of options: the flag of each, then its value
-abbrev pub words_of : List Setting → List (List ℕ)
-words_of [] = []
-words_of (setting ∷ settings) = setting.flag ∷ setting.value ∷ words_of settings
+abbrev pub words_of_settings : List Setting → List (List ℕ)
+words_of_settings [] = []
+words_of_settings (setting ∷ settings) = setting.flag ∷ setting.value ∷ words_of_settings settings
 
 -- the values that are given for a flag
 abbrev pub values_for : List ℕ → List Setting → List (List ℕ)
@@ -97,7 +97,7 @@ HasFiles (dump file) = is_plain_name file ≡ true
 -- words of the plain form spell a command
 pub record SpellsCommand (words : List (List ℕ)) (command : Command) : Type 0 where
   pub settings : List Setting
-  pub are : words ≡ command_word command ∷ (words_of settings ++ files_of command)
+  pub are : words ≡ command_word command ∷ (words_of_settings settings ++ files_of command)
   pub flags : HaveFlags (flags_of command) settings
   pub given : HasSettings command settings
   pub files : HasFiles command

@@ -1,4 +1,6 @@
-//! The words of the command line: the plain form is tested here, and `clap` reads the words that have it.
+//! The words of the command line: the plain form is read here, and `clap` reads the words that have it a second time.
+//! Definitions: the words that spell a command (specs/Words.antt), the names of source files (specs/Sources.antt).
+//! Laws: words spell one command at most, or none; which names are source files.
 #![tactic(auto)]
 
 ghost use Rattle.std.specs.Prelude.{◌≡◌, ◌↔◌, map, string_bytes, IfOk, IfSome, IsTrue};
@@ -14,8 +16,8 @@ mod numbers;
 mod options;
 mod plain;
 
-use by_clap::read_by_clap;
-use clap::error::ErrorKind;
+use by_clap::command_of;
+use clap_words::read_by_clap;
 pub use laws::{a_command_or_none, one_command, source_files};
 use plain::plain_command;
 use std::alloc::{AllocError, Global};
@@ -66,9 +68,8 @@ pub fn read_words<'a>(alloc: Global, words: &'a [String]) -> Result<Option<Comma
     let Some(plain) = plain_command(words) else {
         return Ok(None);
     };
-    match read_by_clap(alloc, words) {
-        Ok(Some(read)) if is_same(&read, &plain) => Ok(Some(read)),
-        Err(error) if error.kind() == ErrorKind::OutOfMemory => Err(AllocError),
+    match read_by_clap(alloc, words)?.and_then(command_of) {
+        Some(read) if is_same(&read, &plain) => Ok(Some(read)),
         _ => Ok(Some(plain)),
     }
 }
