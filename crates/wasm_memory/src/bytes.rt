@@ -40,7 +40,12 @@ pub fn number_at(bytes: &[u8], log_width: u32, address: u64) -> Result<u64, OutO
 }
 
 /// Puts two to the power of `log_width` low bytes of a number from an address on, the least one first.
-pub fn put_number(bytes: &mut [u8], log_width: u32, address: u64, number: u64) -> Result<(), OutOfBounds>
+pub fn put_number(
+    bytes: &mut [u8],
+    log_width: u32,
+    address: u64,
+    number: u64,
+) -> Result<(), OutOfBounds>
     requires narrow { log_width ≤ 3 }
     requires reached { address < 2 ^ 33 }
     ensures value { OnOk result (bytes.new ≡ write (2 ^ log_width) bytes.old address number) }
@@ -124,12 +129,7 @@ fn read_4(bytes: &[u8], at: usize) -> u64
     ensures value { result ≡ read 4 bytes.now at }
     ensures small { result < 2 ^ 32 }
 {
-    u64::from(u32::from_le_bytes([
-        bytes[at],
-        bytes[at + 1],
-        bytes[at + 2],
-        bytes[at + 3],
-    ]))
+    u64::from(u32::from_le_bytes([bytes[at], bytes[at + 1], bytes[at + 2], bytes[at + 3]]))
 }
 
 /// The number that eight bytes spell, the least byte first.
