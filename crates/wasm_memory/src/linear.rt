@@ -79,6 +79,7 @@ impl Memory {
         ensures within { OnOk result (address + 2 ^ log_width ≤ length self.old) }
         ensures out { OnErr result (length self.old < address + 2 ^ log_width) }
         ensures unchanged { OnErr result (self.new ≡ self.old) }
+        ensures length { length self.new ≡ length self.old }
     {
         put_number(&mut self.bytes, log_width, address, number)
     }
@@ -86,7 +87,8 @@ impl Memory {
     /// Puts the bytes of a data segment from an address on (section 4.5.4).
     pub fn put(&mut self, address: usize, bytes: &[u8])
         requires { address + length bytes.now ≤ length self.old }
-        ensures { self.new ≡ put self.old address bytes.now }
+        ensures value { self.new ≡ put self.old address bytes.now }
+        ensures length { length self.new ≡ length self.old }
     {
         put_bytes(&mut self.bytes, address, bytes);
     }
