@@ -99,7 +99,8 @@ impl Values {
     pub fn cut(&mut self, height: usize, base: usize)
         requires beneath { base ≤ height }
         requires there { height ≤ length self.old.own + length self.old.beneath }
-        ensures { IsCut height base self.old self.new }
+        ensures cut { IsCut height base self.old self.new }
+        ensures room { self.old.room ≤ self.new.room }
     {
         self.items.truncate(height);
         self.base = base;

@@ -4,8 +4,8 @@ use Rattle.wasm_values.specs.Stacked.{Stacked}
 use Rattle.wasm_values.proofs.Ends.{parts, upper, lower}
 use Rattle.wasm_values.proofs.operands.Values.cut.Goals as goal
 
-pub returns : goal.returns
-returns c gone own beneath e low high =
+pub returns-clause-cut : goal.returns-clause-cut
+returns-clause-cut c gone own beneath e low high =
     let items = c.self.inside.items.items in
     let first = c.self.inside.base in
     let was = c.args.self.now in
