@@ -5,4 +5,4 @@
 
 mod row;
 
-pub use row::{Aim, Levels, Open};
+pub use row::{Aim, Levels, OpenList};

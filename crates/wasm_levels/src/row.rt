@@ -15,7 +15,7 @@ pub enum Aim<'a> {
 /// An open list: where a branch to it leads, whether it gives a value, and of the list around it how many operands lie
 /// beneath, and what is left.
 #[derive(Clone, Copy)]
-pub struct Open<'a> {
+pub struct OpenList<'a> {
     pub aim: Aim<'a>,
     pub gives: bool,
     pub base: usize,
@@ -26,7 +26,7 @@ pub struct Open<'a> {
 /// first.
 #[derive(Drop)]
 pub struct Levels<'a> {
-    items: Vec<Open<'a>>,
+    items: Vec<OpenList<'a>>,
     base: usize,
 }
 
@@ -65,7 +65,7 @@ impl<'a> Levels<'a> {
     }
 
     /// The open list with this number, the innermost being 0.
-    pub fn get(&self, n: usize) -> Open<'a>
+    pub fn get(&self, n: usize) -> OpenList<'a>
         requires { n < length self.now.own }
         ensures { slice_get self.now.own n ≡ Some result }
     {
@@ -73,7 +73,7 @@ impl<'a> Levels<'a> {
     }
 
     /// Opens a list. `AllocError` leaves the lists as they were.
-    pub fn push(&mut self, list: Open<'a>) -> Result<(), AllocError>
+    pub fn push(&mut self, list: OpenList<'a>) -> Result<(), AllocError>
         ensures own { OnOk result (self.new.own ≡ list.entry ∷ self.old.own) }
         ensures beneath { self.new.beneath ≡ self.old.beneath }
         ensures unchanged { OnErr result (self.new ≡ self.old) }

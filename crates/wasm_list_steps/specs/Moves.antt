@@ -10,7 +10,7 @@ use Rattle.wasm_execution.specs.Turns.{goes_on}
 use Rattle.wasm_execution.specs.Control as machine
 use Rattle.wasm_values.specs.Stacked.{Stacked}
 use Rattle.wasm_levels.specs.declared.row.Aim.{Aim}
-use Rattle.wasm_levels.specs.declared.row.Open.{Open}
+use Rattle.wasm_levels.specs.declared.row.OpenList.{OpenList}
 use Rattle.wasm_levels.specs.Rows.{Rows}
 use Rattle.wasm_levels.specs.Lists.{aim_of, takes_of, count_of, levels_of, beneath_all, AreLaid}
 
@@ -25,27 +25,27 @@ pub record Stays (before : Stacked) (levels : Rows) (after : Stacked) (levels' :
   pub laid : AreLaid levels.own before.beneath → AreLaid levels'.own after.beneath
 
 -- a list is entered
-abbrev pub Enters : Aim → Bool → List WInstr → Stacked → Rows → Stacked → Rows → Type 0
-Enters aim gives rest before levels after levels' = (here : Here) (c : Config) (t : Option ValTy) (body : List WInstr) → results_of t ≡ count_of gives → here.rest ≡ rest →
+abbrev pub EntersList : Aim → Bool → List WInstr → Stacked → Rows → Stacked → Rows → Type 0
+EntersList aim gives rest before levels after levels' = (here : Here) (c : Config) (t : Option ValTy) (body : List WInstr) → results_of t ≡ count_of gives → here.rest ≡ rest →
     machine.enter (aim_of aim) (takes_of aim gives) t body (shown before levels here) c ≡ goes_on (record (shown after levels' here) { rest = body }) c
 
 -- the innermost list is left, and these instructions follow
-abbrev pub Leaves : Stacked → Rows → List WInstr → Stacked → Rows → Type 0
-Leaves before levels rest after levels' = (e : Environment) (here : Here) (c : Config) →
+abbrev pub LeavesList : Stacked → Rows → List WInstr → Stacked → Rows → Type 0
+LeavesList before levels rest after levels' = (e : Environment) (here : Here) (c : Config) →
     machine.leave e (levels_of levels.own before.beneath) (shown before levels here) c ≡ goes_on (record (shown after levels' here) { rest = rest }) c
 
 -- a branch to the open list of this number leads to these instructions
-abbrev pub Lands : ℕ → Stacked → Rows → List WInstr → Stacked → Rows → Type 0
-Lands n before levels rest after levels' = (e : Environment) (here : Here) (c : Config) →
+abbrev pub LandsAt : ℕ → Stacked → Rows → List WInstr → Stacked → Rows → Type 0
+LandsAt n before levels rest after levels' = (e : Environment) (here : Here) (c : Config) →
     machine.branch e n (levels_of levels.own before.beneath) (shown before levels here) c ≡ goes_on (record (shown after levels' here) { rest = rest }) c
 
 -- the innermost list has exactly the operands that it gives
 abbrev pub IsReady : Stacked → Rows → Type 0
-IsReady values levels = (l : Open) → slice_get levels.own 0 ≡ Some l → length values.own ≡ count_of l.gives
+IsReady values levels = (l : OpenList) → slice_get levels.own 0 ≡ Some l → length values.own ≡ count_of l.gives
 
 -- there are as many operands as a branch to this list takes
 abbrev pub CanBranch : ℕ → Stacked → Rows → Type 0
-CanBranch n values levels = (l : Open) → slice_get levels.own n ≡ Some l → takes_of l.aim l.gives ≤ length values.own
+CanBranch n values levels = (l : OpenList) → slice_get levels.own n ≡ Some l → takes_of l.aim l.gives ≤ length values.own
 
 -- what a branch past a list leaves: the value that it gives, if it gives one, lies on the operands of the list around it, of which
 -- `base` lie beneath and `height` in all

@@ -1,13 +1,13 @@
 ghost use Rattle.std.specs.Prelude.{◌≡◌, ◌+◌, ◌<◌, ◌≤◌, length, take, OnOk, OnErr};
 ghost use Rattle.wasm_levels.specs.Lists.{AreLaid, beneath_all, count_of};
-ghost use Rattle.wasm_list_steps.specs.Moves.{CanBranch, Carries, Enters, IsReady, Lands, Leaves, Stays};
+ghost use Rattle.wasm_list_steps.specs.Moves.{CanBranch, Carries, EntersList, IsReady, LandsAt, LeavesList, Stays};
 
 use std::alloc::AllocError;
 use wasm_ast::WInstr;
-use wasm_levels::{Aim, Levels, Open};
+use wasm_levels::{Aim, Levels, OpenList};
 use wasm_values::Values;
 
-/// Enters a list, a branch to which leads there (sections 4.4.5.3 to 4.4.5.5 and 4.4.6.1); `rest` is what follows behind it.
+/// EntersList a list, a branch to which leads there (sections 4.4.5.3 to 4.4.5.5 and 4.4.6.1); `rest` is what follows behind it.
 /// `AllocError` leaves the rows as they were.
 pub fn enter<'a>(
     values: &mut Values,
@@ -16,13 +16,13 @@ pub fn enter<'a>(
     gives: bool,
     rest: &'a [WInstr],
 ) -> Result<(), AllocError>
-    ensures does { OnOk result (Enters aim.entry gives rest.now values.old levels.old values.new levels.new) }
+    ensures does { OnOk result (EntersList aim.entry gives rest.now values.old levels.old values.new levels.new) }
     ensures stays { OnOk result (Stays values.old levels.old values.new levels.new) }
     ensures values { OnErr result (values.new ≡ values.old) }
     ensures levels { OnErr result (levels.new ≡ levels.old) }
     ensures room { values.new.room ≡ values.old.room }
 {
-    levels.push(Open {
+    levels.push(OpenList {
         aim,
         gives,
         base: values.base(),
@@ -32,12 +32,12 @@ pub fn enter<'a>(
     Ok(())
 }
 
-/// Leaves the innermost list at its end, and gives what follows (section 4.4.6.2).
+/// LeavesList the innermost list at its end, and gives what follows (section 4.4.6.2).
 pub fn leave<'a>(values: &mut Values, levels: &mut Levels<'a>) -> &'a [WInstr]
     requires some { 0 < length levels.old.own }
     requires laid { AreLaid levels.old.own values.old.beneath }
     requires ready { IsReady values.old levels.old }
-    ensures does { Leaves values.old levels.old result.now values.new levels.new }
+    ensures does { LeavesList values.old levels.old result.now values.new levels.new }
     ensures stays { Stays values.old levels.old values.new levels.new }
     ensures room { values.new.room ≡ values.old.room }
 {
@@ -81,7 +81,7 @@ pub fn branch<'a>(values: &mut Values, levels: &mut Levels<'a>, n: u32) -> &'a [
     requires there { n < length levels.old.own }
     requires laid { AreLaid levels.old.own values.old.beneath }
     requires enough { CanBranch n values.old levels.old }
-    ensures does { Lands n values.old levels.old result.now values.new levels.new }
+    ensures does { LandsAt n values.old levels.old result.now values.new levels.new }
     ensures stays { Stays values.old levels.old values.new levels.new }
     ensures room { values.old.room ≤ values.new.room }
 {

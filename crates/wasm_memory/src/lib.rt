@@ -6,4 +6,4 @@
 mod bytes;
 mod linear;
 
-pub use linear::{Memory, OutOfBounds};
+pub use linear::{LinearMemory, OutOfBounds};

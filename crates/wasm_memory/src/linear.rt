@@ -20,11 +20,11 @@ pub struct OutOfBounds;
 
 /// A memory; clauses see the list of its bytes (section 4.2.8).
 #[derive(Drop)]
-pub struct Memory {
+pub struct LinearMemory {
     bytes: Vec<u8>,
 }
 
-impl Model for Memory {
+impl Model for LinearMemory {
     ghost use Rattle.std.specs.Prelude.{List, ℕ};
 
     ghost Value = { List ℕ };
@@ -32,13 +32,13 @@ impl Model for Memory {
     ghost view = { λ m. m.bytes.items };
 }
 
-impl Memory {
+impl LinearMemory {
     /// A memory of so many pages, all zero.
-    pub fn new(alloc: Global, pages: u32) -> Result<Memory, AllocError>
+    pub fn new(alloc: Global, pages: u32) -> Result<LinearMemory, AllocError>
         ensures { IfOk result (λ m. m ≡ zeros (65536 * pages)) }
     {
         let bytes = vec![in alloc; 0u8; pages as usize * PAGE]?;
-        Ok(Memory { bytes })
+        Ok(LinearMemory { bytes })
     }
 
     /// The bytes of the memory.

@@ -24,24 +24,24 @@ module _ (e : Environment) where
   accessed address count (Err why) operands before after here c = Ended (touches e here.function address count) (end.Trap why) (with_memory before c)
 
 -- a load from this memory on these operands goes on with those, or it traps
-abbrev pub Loads : ValTy → Access → ℕ → List ℕ → List ℕ → Result (Unit {0}) Trap → List ℕ → Type 0
-Loads t access offset memory old result new = (e : Environment) (here : Here) (c : Config) →
+abbrev pub LoadsNumber : ValTy → Access → ℕ → List ℕ → List ℕ → Result (Unit {0}) Trap → List ℕ → Type 0
+LoadsNumber t access offset memory old result new = (e : Environment) (here : Here) (c : Config) →
     load_number e t access offset (record here { operands = old }) (with_memory memory c)
     ≡ accessed e (first_or_zero old + offset) (2 ^ access.log_width) result new memory memory here c
 
 -- a store on these operands goes on with those, and turns the first memory into the second, or it traps
-abbrev pub Stores : ℕ → ℕ → List ℕ → List ℕ → Result (Unit {0}) Trap → List ℕ → List ℕ → Type 0
-Stores log_width offset before old result after new = (e : Environment) (here : Here) (c : Config) →
+abbrev pub StoresNumber : ℕ → ℕ → List ℕ → List ℕ → Result (Unit {0}) Trap → List ℕ → List ℕ → Type 0
+StoresNumber log_width offset before old result after new = (e : Environment) (here : Here) (c : Config) →
     store_number e log_width offset (record here { operands = old }) (with_memory before c)
     ≡ accessed e (first_or_zero (drop 1 old) + offset) (2 ^ log_width) result new before after here c
 
 -- the size of this memory is put on these operands, which are then those
-abbrev pub Sizes : List ℕ → List ℕ → List ℕ → Type 0
-Sizes memory old new = (e : Environment) (here : Here) (c : Config) →
+abbrev pub TellsSize : List ℕ → List ℕ → List ℕ → Type 0
+TellsSize memory old new = (e : Environment) (here : Here) (c : Config) →
     size_of_memory e (record here { operands = old }) (with_memory memory c) ≡ leaves new here (with_memory memory c)
 
 -- a growth up to so many pages goes on with these operands, and from the first memory to the second
-abbrev pub GrowsTo : ℕ → List ℕ → List ℕ → List ℕ → List ℕ → Type 0
-GrowsTo most before old after new = (e : Environment) (here : Here) (c : Config) → e.most_pages ≡ most →
+abbrev pub GrowsMemory : ℕ → List ℕ → List ℕ → List ℕ → List ℕ → Type 0
+GrowsMemory most before old after new = (e : Environment) (here : Here) (c : Config) → e.most_pages ≡ most →
     grow_memory e (record here { operands = old }) (with_memory before c)
     ≡ Went [] (record (with_memory after c) { here = record here { operands = new } })

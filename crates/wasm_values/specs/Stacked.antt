@@ -26,6 +26,6 @@ pub record Framed : Type 0 where
   pub room : ℕ
 
 -- what is left where a call is over: the locals of the one that waited for it, of which `base` lie beneath
-abbrev pub IsLeft : ℕ → Framed → Framed → Type 0
-IsLeft base before after = (beneath own : List ℕ) → before.beneath ≡ beneath ++ own → length beneath ≡ base →
+abbrev pub IsCallLeft : ℕ → Framed → Framed → Type 0
+IsCallLeft base before after = (beneath own : List ℕ) → before.beneath ≡ beneath ++ own → length beneath ≡ base →
     (after.own ≡ own) × (after.beneath ≡ beneath) × (after.room ≡ before.room + length before.own)

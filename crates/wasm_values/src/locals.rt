@@ -1,5 +1,5 @@
 ghost use Rattle.std.specs.Prelude.{◌≡◌, [], ◌++◌, ◌^◌, ◌<◌, ◌≤◌, Some, length, replicate, slice_get, slice_set, IfOk, OnOk, OnErr};
-ghost use Rattle.wasm_values.specs.Stacked.{IsLeft};
+ghost use Rattle.wasm_values.specs.Stacked.{IsCallLeft};
 
 use std::alloc::{AllocError, Global};
 use std::marker::Model;
@@ -80,7 +80,7 @@ impl Locals {
     /// Ends the call that runs; of the locals of the one that waited for it, `base` lie beneath.
     pub fn leave(&mut self, base: usize)
         requires { base ≤ length self.old.beneath }
-        ensures { IsLeft base self.old self.new }
+        ensures { IsCallLeft base self.old self.new }
     {
         self.items.truncate(self.base);
         self.base = base;

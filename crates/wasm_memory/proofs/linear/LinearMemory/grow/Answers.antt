@@ -1,7 +1,7 @@
 use Rattle.std.proofs.Common.{◌∙◌, ◌*◌, ◌++◌, ℕ, List, vec_len, ap, arith}
 use Rattle.memory_words.specs.Memories.{zeros}
 use Rattle.wasm_memory.proofs.LittleEndian.{grown-is}
-use Rattle.wasm_memory.proofs.linear.Memory.grow.Goals as goal
+use Rattle.wasm_memory.proofs.linear.LinearMemory.grow.Goals as goal
 
 pub returns-clause-grown : goal.returns-clause-grown
 returns-clause-grown c =
