@@ -5,11 +5,7 @@ use Rattle.rw_types.specs.declared.types.Binder.{Binder}
 use Rattle.rw_types.specs.declared.types.Binder.TheVariants.{Loc, Kind}
 use Rattle.rw_types.specs.declared.types.Mem.{Mem}
 use Rattle.rw_types.specs.declared.types.Qual.{Qual}
-
--- what a type variable stands for: a type of this qualifier and size in words
-pub record VariableKind : Type 0 where
-  pub qual : Qual
-  pub size : ℕ
+use Rattle.rich_types.specs.declared.variables.VariableKind.{VariableKind}
 
 -- what is in scope: of each kind of number a list, the innermost first
 pub record Scope : Type 0 where

@@ -7,7 +7,8 @@ use Rattle.rw_types.specs.declared.types.Ty.{Ty, Of, Var, Rec', Row_of-Ty, end_o
 use Rattle.rw_types.specs.declared.types.Pre.{Pre, Unit, I32, I64, Tuple', Ref, Ptr, Cap, Own, Hidden', Code'}
 use Rattle.rw_types.specs.declared.types.Heap.{Heap, Struct', Variant', Array', Exist', Row_of-Slot, end_of-Slot, more_of-Slot}
 use Rattle.rw_types.specs.declared.types.Slot.{Slot}
-use Rattle.rich_types.specs.Scopes.{Scope, VariableKind, with_location, with_variable, variable_of}
+use Rattle.rich_types.specs.declared.variables.VariableKind.{VariableKind}
+use Rattle.rich_types.specs.Scopes.{Scope, with_location, with_variable, variable_of}
 
 -- the qualifier of a type variable; `lin` where there is none
 abbrev pub variable_qual : Option VariableKind → Qual

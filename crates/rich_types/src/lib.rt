@@ -4,6 +4,8 @@
 
 mod depth;
 mod laws;
+mod variables;
 
 pub use depth::Depth;
 pub use laws::worked_types;
+pub use variables::VariableKind;
