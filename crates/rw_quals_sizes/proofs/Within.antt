@@ -1,5 +1,5 @@
 -- Binders looked at from the innermost outwards.
-use Rattle.std.proofs.Common.{◌≡◌, ◌<◌, ◌≤◌, ◌+◌, ◌-◌, ◌∙◌, ℕ, zero, suc, List, [], ◌∷◌, ◌++◌, length, take, get_or, Some, refl, ap, arith}
+use Rattle.std.proofs.Common.{◌≡◌, ◌<◌, ◌≤◌, ◌+◌, ◌-◌, ◌∙◌, ℕ, suc, List, [], ◌∷◌, ◌++◌, length, take, get_or, Some, refl, ap, arith}
 use Rattle.std.proofs.lemmas.List.{take_more}
 use Rattle.rw_types.specs.declared.types.Binder.{Binder}
 use Rattle.rw_types.specs.declared.types.Binder.TheVariants.{Loc, Kind}
