@@ -1,5 +1,5 @@
 -- Raising keeps what numbers stand for, and so do arguments that answer their binders.
-use Rattle.std.proofs.Common.{◌≡◌, ◌≤◌, ◌<◌, ◌∙◌, ℕ, zero, suc, ◌+◌, ◌-◌, List, [], ◌∷◌, ◌++◌, length, Option, Some, None, refl, ap, sym, subst, arith, inl, inr}
+use Rattle.std.proofs.Common.{◌≡◌, ◌≤◌, ◌<◌, ◌∙◌, ℕ, zero, suc, ◌+◌, ◌-◌, List, [], ◌∷◌, ◌++◌, length, Some, refl, ap, sym, subst, arith, inl, inr}
 use Rattle.std.specs.Prelude.{slice_get}
 use Rattle.std.specs.Option.{IsSomeAnd}
 use Rattle.std.proofs.Math.Path.{subst⁻¹}
@@ -16,9 +16,9 @@ use Rattle.rich_types.specs.Scopes.{Scope, no_scope, within, with_location, with
 use Rattle.rich_types.specs.Sizes.{qual_under, size_under, variable_qual, variable_size}
 use Rattle.rich_types.specs.WellFormed.{most_words, IsWellFormed}
 use Rattle.rich_types.specs.Walks.{below_location, below_variable, outside, walk}
-use Rattle.rich_types.specs.Instances.{raise_number, raising, raise, look, found_or, substituting, Substitution, substitution_of, substitution_within, no_substitution, instance}
-use Rattle.rich_types_laws.specs.Laws.{Answers, AnswerAll, WellFormedInstance}
-use Rattle.rich_types_laws.proofs.Composed.{place, Out', raise_in, raise_out, append_past, append_found, Seek, found, past, seek, look_in, look_out}
+use Rattle.rich_types.specs.Instances.{raise_number, raising, raise, look, found_or, substituting, Substitution, substitution_of, substitution_within, no_substitution}
+use Rattle.rich_types_laws.specs.Laws.{AnswerAll, WellFormedInstance}
+use Rattle.rich_types_laws.proofs.Composed.{place, raise_in, raise_out, append_past, found, past, seek, look_in, look_out}
 use Rattle.rich_types_laws.proofs.Carried.{Keeps, Carries, carried}
 
 -- a scope within another
@@ -49,13 +49,14 @@ module _ {A : Type 0} where
 
   raised_found : (xs more base : List A) (d k n : ℕ) (x : A) → d ≡ length xs → k ≡ length more → slice_get (xs ++ base) n ≡ Some x → slice_get (xs ++ (more ++ base)) (raise_number d k n) ≡ Some x
   raised_found xs more base d k n x ed ek is = elim (place d n) [
-      inl lt ↦ (let l : n < length xs = omega arith in
+    | inl lt ↦ (let l : n < length xs = omega arith in
         ap (λ (i : ℕ). slice_get (xs ++ (more ++ base)) i) (raise_in d k n lt) ∙ append_front xs (more ++ base) n l ∙ sym (append_front xs base n l) ∙ is)
     | inr o ↦ (let le : d ≤ n = omega (arith, o.is) in
         let e : n + k ≡ length xs + (length more + o.far) = omega (arith, o.is) in
         let e0 : n ≡ length xs + o.far = omega (arith, o.is) in
         ap (λ (i : ℕ). slice_get (xs ++ (more ++ base)) i) (raise_out d k n le) ∙ append_out xs (more ++ base) (n + k) (length more + o.far) e ∙ append_past more base o.far
-        ∙ sym (append_out xs base n o.far e0) ∙ is) ]
+        ∙ sym (append_out xs base n o.far e0) ∙ is)
+  ]
 
 -- within the same binders, a scope and that scope below more
 record RaisedAt (base more : Scope) (d : Depth) (c e : Scope) : Type 0 where
@@ -69,10 +70,10 @@ raising_carries : (base more : Scope) → Carries (raising (depth_of more)) (Rai
 unfolding below_location below_variable
 raising_carries base more = record {
   location = λ d c e at n m is.
-    ap (λ (s : Scope). slice_get s.locations (raise_number d.locations (length more.locations) n)) at.to
-    ∙ raised_found at.inner.locations more.locations base.locations d.locations (length more.locations) n m at.locations refl (sym (ap (λ (s : Scope). slice_get s.locations n) at.from) ∙ is);
+      ap (λ (s : Scope). slice_get s.locations (raise_number d.locations (length more.locations) n)) at.to
+      ∙ raised_found at.inner.locations more.locations base.locations d.locations (length more.locations) n m at.locations refl (sym (ap (λ (s : Scope). slice_get s.locations n) at.from) ∙ is);
   variable = λ d c e at n k is few.
-    bound_variable e (raise_number d.variables (length more.variables) n) k
+      bound_variable e (raise_number d.variables (length more.variables) n) k
       (ap (λ (s : Scope). slice_get s.variables (raise_number d.variables (length more.variables) n)) at.to
       ∙ raised_found at.inner.variables more.variables base.variables d.variables (length more.variables) n k at.variables refl (sym (ap (λ (s : Scope). slice_get s.variables n) at.from) ∙ is)) few;
   deeper_location = λ d c e at m. record {
@@ -116,14 +117,14 @@ record PutAt (base x : Scope) (d : Depth) (c e : Scope) : Type 0 where
 module _ (base x : Scope) (g : Substitution) (answered : AnsweredBy base x g) where
   put_location : (inner : List Mem) (d n : ℕ) (m : Mem) → d ≡ length inner → slice_get (inner ++ (x.locations ++ base.locations)) n ≡ Some m → slice_get (inner ++ base.locations) (look g.locations (λ l. l + d) (λ i. i) d n) ≡ Some m
   put_location inner d n m ed is = elim (place d n) [
-      inl lt ↦ (let l : n < length inner = omega arith in
+    | inl lt ↦ (let l : n < length inner = omega arith in
         ap (λ (i : ℕ). slice_get (inner ++ base.locations) i) (look_in g.locations (λ l. l + d) (λ i. i) d n lt)
         ∙ append_front inner base.locations n l ∙ sym (append_front inner (x.locations ++ base.locations) n l) ∙ is)
     | inr o ↦ (let e0 : n ≡ length inner + o.far = omega (arith, o.is) in
         let rest : slice_get (x.locations ++ base.locations) o.far ≡ Some m = sym (append_out inner (x.locations ++ base.locations) n o.far e0) ∙ is in
         ap (λ (i : ℕ). slice_get (inner ++ base.locations) i) (look_out g.locations (λ l. l + d) (λ i. i) d n o.far o.is)
         ∙ elim (seek g.locations o.far) [
-            found l at ↦ (let lt : o.far < length x.locations = omega (arith, found_within g.locations o.far l at, answered.locations) in
+          | found l at ↦ (let lt : o.far < length x.locations = omega (arith, found_within g.locations o.far l at, answered.locations) in
               let el : l + d ≡ length inner + l = omega arith in
               ap (λ s. slice_get (inner ++ base.locations) (found_or s (λ l'. l' + d) (n - length g.locations))) at
               ∙ append_out inner base.locations (l + d) l el
@@ -132,38 +133,42 @@ module _ (base x : Scope) (g : Substitution) (answered : AnsweredBy base x g) wh
               let e2 : o.far ≡ length x.locations + (o.far - length x.locations) = omega (arith, answered.locations) in
               ap (λ s. slice_get (inner ++ base.locations) (found_or s (λ l'. l' + d) (n - length g.locations))) at
               ∙ append_out inner base.locations (n - length g.locations) (o.far - length x.locations) e1
-              ∙ sym (append_out x.locations base.locations o.far (o.far - length x.locations) e2) ∙ rest) ]) ]
+              ∙ sym (append_out x.locations base.locations o.far (o.far - length x.locations) e2) ∙ rest)
+        ])
+  ]
 
   put_variable : (inner : Scope) (n : ℕ) (k : VariableKind) → slice_get (inner.variables ++ (x.variables ++ base.variables)) n ≡ Some k → k.size ≤ most_words → Keeps (onto inner base) ((substituting g).variable (depth_of inner) n) k.qual k.size
   put_variable inner n k is few =
       let d : ℕ = length inner.variables in
       elim (place (length inner.variables) n) [
-        inl lt ↦ subst⁻¹ (λ t. Keeps (onto inner base) t k.qual k.size) (look_in g.variables (λ t. raise (depth_of inner) t) (λ i. Var i) (length inner.variables) n lt)
-          (bound_variable (onto inner base) n k (append_front inner.variables base.variables n lt ∙ sym (append_front inner.variables (x.variables ++ base.variables) n lt) ∙ is) few)
-      | inr o ↦ (let rest : slice_get (x.variables ++ base.variables) o.far ≡ Some k = sym (append_out inner.variables (x.variables ++ base.variables) n o.far o.is) ∙ is in
-          subst⁻¹ (λ t. Keeps (onto inner base) t k.qual k.size) (look_out g.variables (λ t. raise (depth_of inner) t) (λ i. Var i) (length inner.variables) n o.far o.is)
+        | inl lt ↦ subst⁻¹ (λ t. Keeps (onto inner base) t k.qual k.size) (look_in g.variables (λ t. raise (depth_of inner) t) (λ i. Var i) (length inner.variables) n lt)
+            (bound_variable (onto inner base) n k (append_front inner.variables base.variables n lt ∙ sym (append_front inner.variables (x.variables ++ base.variables) n lt) ∙ is) few)
+        | inr o ↦ (let rest : slice_get (x.variables ++ base.variables) o.far ≡ Some k = sym (append_out inner.variables (x.variables ++ base.variables) n o.far o.is) ∙ is in
+            subst⁻¹ (λ t. Keeps (onto inner base) t k.qual k.size) (look_out g.variables (λ t. raise (depth_of inner) t) (λ i. Var i) (length inner.variables) n o.far o.is)
             (elim (seek g.variables o.far) [
-                found t at ↦ (let lt : o.far < length x.variables = omega (arith, found_within g.variables o.far t at, answered.variables) in
+              | found t at ↦ (let lt : o.far < length x.variables = omega (arith, found_within g.variables o.far t at, answered.variables) in
                   let a = answered.variable o.far t k at (sym (append_front x.variables base.variables o.far lt) ∙ rest) in
                   let r = raised_keeps base inner t a.0 in
                   subst⁻¹ (λ o'. Keeps (onto inner base) (found_or o' (λ t'. raise (depth_of inner) t') (Var (n - length g.variables))) k.qual k.size) at
-                    (record { form = r.form; qual = r.qual ∙ a.1; size = r.size ∙ a.2 }))
+                  (record { form = r.form; qual = r.qual ∙ a.1; size = r.size ∙ a.2 }))
               | past le at ↦ (let e1 : n - length g.variables ≡ length inner.variables + (o.far - length x.variables) = omega (arith, o.is, answered.variables) in
                   let e2 : o.far ≡ length x.variables + (o.far - length x.variables) = omega (arith, answered.variables) in
                   subst⁻¹ (λ o'. Keeps (onto inner base) (found_or o' (λ t'. raise (depth_of inner) t') (Var (n - length g.variables))) k.qual k.size) at
-                    (bound_variable (onto inner base) (n - length g.variables) k
-                      (append_out inner.variables base.variables (n - length g.variables) (o.far - length x.variables) e1 ∙ sym (append_out x.variables base.variables o.far (o.far - length x.variables) e2) ∙ rest) few)) ])) ]
+                  (bound_variable (onto inner base) (n - length g.variables) k
+                  (append_out inner.variables base.variables (n - length g.variables) (o.far - length x.variables) e1 ∙ sym (append_out x.variables base.variables o.far (o.far - length x.variables) e2) ∙ rest) few))
+            ]))
+      ]
 
   substituting_carries : Carries (substituting g) (PutAt base x)
   unfolding below_location below_variable
   substituting_carries = record {
     location = λ d c e at n m is.
-      ap (λ (s : Scope). slice_get s.locations ((substituting g).location d n)) at.to
-      ∙ put_location at.inner.locations d.locations n m (ap (λ (y : Depth). y.locations) at.depth) (sym (ap (λ (s : Scope). slice_get s.locations n) at.from) ∙ is);
+        ap (λ (s : Scope). slice_get s.locations ((substituting g).location d n)) at.to
+        ∙ put_location at.inner.locations d.locations n m (ap (λ (y : Depth). y.locations) at.depth) (sym (ap (λ (s : Scope). slice_get s.locations n) at.from) ∙ is);
     variable = λ d c e at n k is few.
-      subst⁻¹ (λ (s : Scope). Keeps s ((substituting g).variable d n) k.qual k.size) at.to
+        subst⁻¹ (λ (s : Scope). Keeps s ((substituting g).variable d n) k.qual k.size) at.to
         (subst⁻¹ (λ (y : Depth). Keeps (onto at.inner base) ((substituting g).variable y n) k.qual k.size) at.depth
-          (put_variable at.inner n k (sym (ap (λ (s : Scope). slice_get s.variables n) at.from) ∙ is) few));
+        (put_variable at.inner n k (sym (ap (λ (s : Scope). slice_get s.variables n) at.from) ∙ is) few));
     deeper_location = λ d c e at m. record {
       inner = with_location m at.inner;
       depth = ap below_location at.depth ∙ (let s : length at.inner.locations + 1 ≡ suc (length at.inner.locations) = omega arith in ap (λ (i : ℕ). record { locations = i; variables = length at.inner.variables }) s);
@@ -209,7 +214,7 @@ with_answered_variable base x g t q s form eq es a = record {
   first_variable : (n : ℕ) (t' : Ty) (k : VariableKind) → slice_get (t ∷ g.variables) n ≡ Some t' → slice_get (record { qual = q; size = s } ∷ x.variables) n ≡ Some k → IsWellFormed base t' × (qual_under base t' ≡ k.qual) × (size_under base t' ≡ k.size)
   first_variable zero t' k at there =
       (let et : t ≡ t' = cc in let ek : record { qual = q; size = s } ≡ k = cc in
-       (subst (IsWellFormed base) et form, ap (qual_under base) (sym et) ∙ eq ∙ ap (λ (v : VariableKind). v.qual) ek, ap (size_under base) (sym et) ∙ es ∙ ap (λ (v : VariableKind). v.size) ek))
+      (subst (IsWellFormed base) et form, ap (qual_under base) (sym et) ∙ eq ∙ ap (λ (v : VariableKind). v.qual) ek, ap (size_under base) (sym et) ∙ es ∙ ap (λ (v : VariableKind). v.size) ek))
   first_variable (suc n) t' k at there = a.variable n t' k at there
 
 answered_by : (base : Scope) (args : List Arg) (bs : List Binder) (x : Scope) (g : Substitution) → AnswerAll base args bs → AnsweredBy base x g → AnsweredBy base (within bs x) (substitution_within args g)

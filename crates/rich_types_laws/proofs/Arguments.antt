@@ -2,9 +2,8 @@
 use Rattle.std.proofs.Common.{◌≡◌, ◌∙◌, List, [], ◌∷◌, ◌++◌, map, refl, ap, sym}
 use Rattle.rw_types.specs.declared.types.Arg.{Arg}
 use Rattle.rw_types.specs.declared.types.Arg.TheVariants.{Loc, Given}
-use Rattle.rw_types.specs.declared.types.Ty.{Ty}
 use Rattle.rich_types.specs.Walks.{outside, walk}
-use Rattle.rich_types.specs.Instances.{instance, substituting, Substitution, substitution_of, substitution_within, no_substitution}
+use Rattle.rich_types.specs.Instances.{substituting, Substitution, substitution_of, substitution_within, no_substitution}
 use Rattle.rich_types_laws.specs.Laws.{argument_under, InstanceOfInstance}
 use Rattle.rich_types_laws.proofs.Composed.{substitution_under, put_put}
 

@@ -8,24 +8,18 @@ use Rattle.rw_types.specs.declared.types.Binder.{Binder}
 use Rattle.rw_types.specs.declared.types.Binder.TheVariants.{Loc, Kind}
 use Rattle.rw_types.specs.declared.types.Mem.{Mem}
 use Rattle.rw_types.specs.declared.types.Mem.TheVariants.{L}
-use Rattle.rw_types.specs.declared.types.Priv.{Priv}
 use Rattle.rw_types.specs.declared.types.Qual.{Qual}
 use Rattle.rw_types.specs.declared.types.Qual.TheVariants.{Unr, Lin}
-use Rattle.rw_types.specs.declared.types.Slot.{Slot}
-use Rattle.rw_types.specs.declared.types.FunType.{FunType}
 use Rattle.rw_types.specs.declared.types.Ty.{Ty, Of, Var, Rec', Row_of-Ty, end_of-Ty, more_of-Ty}
-use Rattle.rw_types.specs.declared.types.Ty.TheVariants.{Rec}
 use Rattle.rw_types.specs.declared.types.Pre.{Pre, Unit, I32, I64, Tuple', Ref, Ptr, Cap, Own, Hidden', Code', end_of-FunType, more_of-FunType}
-use Rattle.rw_types.specs.declared.types.Pre.TheVariants.{Tuple, Hidden, Code}
 use Rattle.rw_types.specs.declared.types.Heap.{Heap, Struct', Variant', Array', Exist', Row_of-Slot, end_of-Slot, more_of-Slot}
-use Rattle.rw_types.specs.declared.types.Heap.TheVariants.{Struct, Variant, Array, Exist}
 use Rattle.rich_types.specs.declared.depth.Depth.{Depth}
 use Rattle.rich_types.specs.declared.variables.VariableKind.{VariableKind}
 use Rattle.rich_types.specs.Scopes.{Scope, within, with_location, with_variable, memory_of, variable_of}
-use Rattle.rich_types.specs.Sizes.{qual_under, size_under, pre_size, heap_words, row_size, row_greatest, row_slot_words, list_size, list_greatest, slot_words, variable_qual, variable_size}
+use Rattle.rich_types.specs.Sizes.{qual_under, size_under, pre_size, row_size, row_greatest, row_slot_words, list_size, list_greatest, slot_words, variable_qual, variable_size}
 use Rattle.rich_types.specs.Walks.{Leaves, below, below_location, below_variable, walk, walk_pre, walk_heap, walk_row, walk_slot_row}
-use Rattle.rich_types.specs.WellFormed.{most_words, content_qual, IsAtMost, MayRefer, MayOwn, IsBodyOf, IsPart, IsWellFormed, IsWellFormedPre, IsWellFormedHeap, IsRowOfParts, IsRowOfSlots, AreParts, AreSlots, IsWellFormedFunction}
-use Rattle.rich_types.proofs.Sized.{size-Tuple, size-Hidden, size-Code, words-Struct, words-Variant, words-Array, words-Exist, form-Rec, form-Tuple, form-Hidden, form-Code, form-Struct, form-Variant, form-Array, form-Exist}
+use Rattle.rich_types.specs.WellFormed.{most_words, content_qual, IsAtMost, MayRefer, MayOwn, IsWellFormed, IsWellFormedPre, IsWellFormedHeap, IsRowOfParts, IsRowOfSlots, AreParts, AreSlots}
+use Rattle.rich_types.proofs.Sized.{size-Tuple, size-Hidden, form-Rec, form-Tuple, form-Hidden, form-Code, form-Struct, form-Variant, form-Array, form-Exist}
 
 -- a type is well formed, of this qualifier and this size
 pub record Keeps (c : Scope) (t : Ty) (q : Qual) (s : ℕ) : Type 0 where
@@ -109,9 +103,10 @@ module _ {f : Leaves} {At : Depth → Scope → Scope → Type 0} (carries : Car
     carried_pre d c e at q (Cap p l h) w = ((own_kept d c e at q l w.0, carried_heap d c e at L h w.1), refl)
     carried_pre d c e at q (Own l) h = (own_kept d c e at q l h, refl)
     carried_pre d c e at q (Hidden' m a (more_of-Ty t end_of-Ty)) h =
-        let r = carried (below_location d) (with_location m c) (with_location m e) (carries.deeper_location d c e at m) t h.0 in
-        (unturn (form-Hidden e q m (walk f (below_location d) t)) (r.form, at_most (qual_under (with_location m e) (walk f (below_location d) t)) (qual_under (with_location m c) t) q r.qual h.1),
-         size-Hidden e m (walk f (below_location d) t) ∙ r.size)
+        let r = carried (below_location d) (with_location m c) (with_location m e) (carries.deeper_location d c e at m) t h.0 in (
+          unturn (form-Hidden e q m (walk f (below_location d) t)) (r.form, at_most (qual_under (with_location m e) (walk f (below_location d) t)) (qual_under (with_location m c) t) q r.qual h.1),
+          size-Hidden e m (walk f (below_location d) t) ∙ r.size,
+        )
     carried_pre d c e at q (Code' a (more_of-FunType bs m ps n rs end_of-FunType)) h =
         let inner = at_within bs d c e at in
         let p = carried_row (below bs d) (within bs c) (within bs e) inner Lin ps h.0 in
@@ -130,18 +125,21 @@ module _ {f : Leaves} {At : Depth → Scope → Scope → Type 0} (carries : Car
         unturn (form-Array e m (walk f d t)) (few (1 + size_under e (walk f d t)) (1 + size_under c t) most_words (ap (λ (x : ℕ). 1 + x) r.size) h.0, r.form, at_most (qual_under e (walk f d t)) (qual_under c t) Unr r.qual h.2)
     carried_heap d c e at m (Exist' q s a (more_of-Ty t end_of-Ty)) h =
         let r = carried (below_variable d) (with_variable q s c) (with_variable q s e) (carries.deeper_variable d c e at q s) t h.1 in
-        unturn (form-Exist e m q s (walk f (below_variable d) t))
-          (few (size_under (with_variable q s e) (walk f (below_variable d) t)) (size_under (with_variable q s c) t) most_words r.size h.0, r.form,
-           at_most (qual_under (with_variable q s e) (walk f (below_variable d) t)) (qual_under (with_variable q s c) t) (content_qual m) r.qual h.2)
+        unturn (form-Exist e m q s (walk f (below_variable d) t)) (
+          few (size_under (with_variable q s e) (walk f (below_variable d) t)) (size_under (with_variable q s c) t) most_words r.size h.0,
+          r.form,
+          at_most (qual_under (with_variable q s e) (walk f (below_variable d) t)) (qual_under (with_variable q s c) t) (content_qual m) r.qual h.2,
+        )
 
     carried_row : (d : Depth) (c e : Scope) → At d c e → (q : Qual) {n : _} (ts : Row_of-Ty n) → IsRowOfParts c q ts → AreParts e q (walk_row f d ts) × (list_size e (walk_row f d ts) ≡ row_size c ts) × (list_greatest e (walk_row f d ts) ≡ row_greatest c ts)
     carried_row d c e at q end_of-Ty h = (tt, refl, refl)
     carried_row d c e at q (more_of-Ty t ts) h =
         let r = carried d c e at t h.0 in
-        let rest = carried_row d c e at q ts h.2 in
-        ((r.form, at_most (qual_under e (walk f d t)) (qual_under c t) q r.qual h.1, rest.0),
-         ap (λ (x : ℕ). x + list_size e (walk_row f d ts)) r.size ∙ ap (λ (x : ℕ). size_under c t + x) rest.1,
-         ap (λ (x : ℕ). max x (list_greatest e (walk_row f d ts))) r.size ∙ ap (λ (x : ℕ). max (size_under c t) x) rest.2)
+        let rest = carried_row d c e at q ts h.2 in (
+          (r.form, at_most (qual_under e (walk f d t)) (qual_under c t) q r.qual h.1, rest.0),
+          ap (λ (x : ℕ). x + list_size e (walk_row f d ts)) r.size ∙ ap (λ (x : ℕ). size_under c t + x) rest.1,
+          ap (λ (x : ℕ). max x (list_greatest e (walk_row f d ts))) r.size ∙ ap (λ (x : ℕ). max (size_under c t) x) rest.2,
+        )
 
     carried_slots : (d : Depth) (c e : Scope) → At d c e → {n : _} (ss : Row_of-Slot n) → IsRowOfSlots c ss → AreSlots e (walk_slot_row f d ss) × (slot_words (walk_slot_row f d ss) ≡ row_slot_words ss)
     carried_slots d c e at end_of-Slot h = (tt, refl)

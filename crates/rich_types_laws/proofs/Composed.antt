@@ -1,12 +1,11 @@
 -- An instance of an instance is one instance.
-use Rattle.std.proofs.Common.{◌≡◌, ℕ, zero, suc, ◌+◌, ◌-◌, ◌<◌, ◌≤◌, List, [], ◌∷◌, ◌++◌, length, map, cond, Bool, true, false, Option, Some, None, refl, sym, ap, ◌∙◌, arith, subst, length-append, ◌⊎◌, inl, inr}
+use Rattle.std.proofs.Common.{◌≡◌, ℕ, zero, suc, ◌+◌, ◌-◌, ◌<◌, ◌≤◌, List, [], ◌∷◌, ◌++◌, length, map, cond, true, false, Some, None, refl, sym, ap, ◌∙◌, arith, length-append, ◌⊎◌, inl, inr}
 use Rattle.std.specs.Prelude.{slice_get}
 use Rattle.std.proofs.Math.Dec.{ltb}
-use Rattle.std.proofs.lemmas.Option.{slice_get_cases, slice_get_past, slice_get-map, slice_get_within}
 use Rattle.std.proofs.lemmas.List.{length-map}
 use Rattle.std.proofs.lemmas.Bool.{lt-ltb, le-ltb, ltb-true, ltb-false}
 use Rattle.rich_types.specs.declared.depth.Depth.{Depth}
-use Rattle.rw_types.specs.declared.types.Ty.{Ty, Of, Var}
+use Rattle.rw_types.specs.declared.types.Ty.{Ty, Var}
 use Rattle.rich_types.specs.Walks.{Leaves, walk, below_location, below_variable, outside}
 use Rattle.rich_types.specs.Instances.{raise_number, raising, raise, Substitution, found_or, look, substituting}
 use Rattle.rich_types_laws.proofs.Walked.{after, walk_walk, Alike, walk_alike}
@@ -27,9 +26,10 @@ raise_out d k n le = ap (λ b. cond b n (n + k)) (le-ltb n d le)
 
 raise_raise : (e c k n : ℕ) → raise_number (e + c) k (raise_number e c n) ≡ raise_number e (c + k) n
 raise_raise e c k n = elim (place e n) [
-    inl lt ↦ (let l2 : n < e + c = omega arith in ap (raise_number (e + c) k) (raise_in e c n lt) ∙ raise_in (e + c) k n l2 ∙ sym (raise_in e (c + k) n lt))
+  | inl lt ↦ (let l2 : n < e + c = omega arith in ap (raise_number (e + c) k) (raise_in e c n lt) ∙ raise_in (e + c) k n l2 ∙ sym (raise_in e (c + k) n lt))
   | inr o ↦ (let le : e ≤ n = omega (arith, o.is) in let l2 : e + c ≤ n + c = omega arith in let s : (n + c) + k ≡ n + (c + k) = omega arith in
-      ap (raise_number (e + c) k) (raise_out e c n le) ∙ raise_out (e + c) k (n + c) l2 ∙ s ∙ sym (raise_out e (c + k) n le)) ]
+      ap (raise_number (e + c) k) (raise_out e c n le) ∙ raise_out (e + c) k (n + c) l2 ∙ s ∙ sym (raise_out e (c + k) n le))
+]
 
 -- deeper by so many binders
 pub record Deeper (k d e : Depth) : Type 0 where
@@ -95,14 +95,16 @@ module _ {A B : Type 0} where
 
   look_raised : (xs : List A) (hit : A → B) (free : ℕ → B) (e c n : ℕ) → look xs hit free (e + c) (raise_number e c n) ≡ look xs hit (λ m. free (raise_number e c m)) e n
   look_raised xs hit free e c n = elim (place e n) [
-      inl lt ↦ (let l2 : n < e + c = omega arith in ap (look xs hit free (e + c)) (raise_in e c n lt) ∙ look_in xs hit free (e + c) n l2 ∙ sym (ap free (raise_in e c n lt)) ∙ sym (look_in xs hit (λ m. free (raise_number e c m)) e n lt))
+    | inl lt ↦ (let l2 : n < e + c = omega arith in ap (look xs hit free (e + c)) (raise_in e c n lt) ∙ look_in xs hit free (e + c) n l2 ∙ sym (ap free (raise_in e c n lt)) ∙ sym (look_in xs hit (λ m. free (raise_number e c m)) e n lt))
     | inr o ↦ (let le : e ≤ n = omega (arith, o.is) in let e2 : n + c ≡ (e + c) + o.far = omega (arith, o.is) in
         ap (look xs hit free (e + c)) (raise_out e c n le) ∙ look_out xs hit free (e + c) (n + c) o.far e2
         ∙ elim (seek xs o.far) [
-            found x is ↦ ap (λ s. found_or s hit (free ((n + c) - length xs))) is ∙ sym (ap (λ s. found_or s hit (free (raise_number e c (n - length xs)))) is)
+          | found x is ↦ ap (λ s. found_or s hit (free ((n + c) - length xs))) is ∙ sym (ap (λ s. found_or s hit (free (raise_number e c (n - length xs)))) is)
           | past lx is ↦ (let l3 : e ≤ n - length xs = omega (arith, o.is) in let e3 : (n + c) - length xs ≡ (n - length xs) + c = omega (arith, o.is) in
-              ap (λ s. found_or s hit (free ((n + c) - length xs))) is ∙ ap free (e3 ∙ sym (raise_out e c (n - length xs) l3)) ∙ sym (ap (λ s. found_or s hit (free (raise_number e c (n - length xs)))) is)) ]
-        ∙ sym (look_out xs hit (λ m. free (raise_number e c m)) e n o.far o.is)) ]
+              ap (λ s. found_or s hit (free ((n + c) - length xs))) is ∙ ap free (e3 ∙ sym (raise_out e c (n - length xs) l3)) ∙ sym (ap (λ s. found_or s hit (free (raise_number e c (n - length xs)))) is))
+        ]
+        ∙ sym (look_out xs hit (λ m. free (raise_number e c m)) e n o.far o.is))
+  ]
 
 look_map : {A B C : Type 0} (h : B → C) (xs : List A) (hit : A → B) (free : ℕ → B) (d n : ℕ) → h (look xs hit free d n) ≡ look xs (λ x. h (hit x)) (λ m. h (free m)) d n
 look_map h xs hit free d n = elim (ltb n d) as (λ b. h (cond b (free n) (found_or (slice_get xs (n - d)) hit (free (n - length xs)))) ≡ cond b (h (free n)) (found_or (slice_get xs (n - d)) (λ x. h (hit x)) (h (free (n - length xs)))))
@@ -112,13 +114,13 @@ look_map h xs hit free d n = elim (ltb n d) as (λ b. h (cond b (free n) (found_
 pub put_raised : (g : Substitution) (c : Depth) (t : Ty) → walk (substituting g) c (raise c t) ≡ raise c (walk (substituting g) outside t)
 put_raised g c t =
     walk_raised (substituting g) (after (raising c) (substituting g)) c t
-      (λ d n. look_raised g.locations (λ l. l + (d.locations + c.locations)) (λ m. m) d.locations c.locations n
-        ∙ look_ext g.locations (λ l. l + (d.locations + c.locations)) (λ l. raise_number d.locations c.locations (l + d.locations)) (λ m. raise_number d.locations c.locations m) d.locations n
-            (λ l. let le : d.locations ≤ l + d.locations = omega arith in let s : l + (d.locations + c.locations) ≡ (l + d.locations) + c.locations = omega arith in s ∙ sym (raise_out d.locations c.locations (l + d.locations) le))
-        ∙ sym (look_map (raise_number d.locations c.locations) g.locations (λ l. l + d.locations) (λ m. m) d.locations n))
-      (λ d n. look_raised g.variables (λ u. raise (plus d c) u) (λ m. Var m) d.variables c.variables n
-        ∙ look_ext g.variables (λ u. raise (plus d c) u) (λ u. walk (raising c) d (raise d u)) (λ m. Var (raise_number d.variables c.variables m)) d.variables n (λ u. sym (raised_raised d c u))
-        ∙ sym (look_map (λ u. walk (raising c) d u) g.variables (λ u. raise d u) (λ m. Var m) d.variables n))
+    (λ d n. look_raised g.locations (λ l. l + (d.locations + c.locations)) (λ m. m) d.locations c.locations n
+    ∙ look_ext g.locations (λ l. l + (d.locations + c.locations)) (λ l. raise_number d.locations c.locations (l + d.locations)) (λ m. raise_number d.locations c.locations m) d.locations n
+    (λ l. let le : d.locations ≤ l + d.locations = omega arith in let s : l + (d.locations + c.locations) ≡ (l + d.locations) + c.locations = omega arith in s ∙ sym (raise_out d.locations c.locations (l + d.locations) le))
+    ∙ sym (look_map (raise_number d.locations c.locations) g.locations (λ l. l + d.locations) (λ m. m) d.locations n))
+    (λ d n. look_raised g.variables (λ u. raise (plus d c) u) (λ m. Var m) d.variables c.variables n
+    ∙ look_ext g.variables (λ u. raise (plus d c) u) (λ u. walk (raising c) d (raise d u)) (λ m. Var (raise_number d.variables c.variables m)) d.variables n (λ u. sym (raised_raised d c u))
+    ∙ sym (look_map (λ u. walk (raising c) d u) g.variables (λ u. raise d u) (λ m. Var m) d.variables n))
     ∙ sym (walk_walk (raising c) (substituting g) outside t)
 
 -- the arguments of an instance, below what stands for the binders around it
@@ -142,16 +144,18 @@ map_found f (y ∷ xs) (suc k) x e = map_found f xs k x e
 module _ {A B : Type 0} where
   look_append : (f : A → A) (xs ys : List A) (hit : A → B) (free : ℕ → B) (d n : ℕ) → look xs (λ x. hit (f x)) (λ m. look ys hit free d m) d n ≡ look (map f xs ++ ys) hit free d n
   look_append f xs ys hit free d n = elim (place d n) [
-      inl lt ↦ look_in xs (λ x. hit (f x)) (λ m. look ys hit free d m) d n lt ∙ look_in ys hit free d n lt ∙ sym (look_in (map f xs ++ ys) hit free d n lt)
+    | inl lt ↦ look_in xs (λ x. hit (f x)) (λ m. look ys hit free d m) d n lt ∙ look_in ys hit free d n lt ∙ sym (look_in (map f xs ++ ys) hit free d n lt)
     | inr o ↦ look_out xs (λ x. hit (f x)) (λ m. look ys hit free d m) d n o.far o.is
         ∙ elim (seek xs o.far) [
-            found x is ↦ ap (λ s. found_or s (λ x. hit (f x)) (look ys hit free d (n - length xs))) is ∙ sym (ap (λ s. found_or s hit (free (n - length (map f xs ++ ys)))) (append_found (map f xs) ys o.far (f x) (map_found f xs o.far x is)))
+          | found x is ↦ ap (λ s. found_or s (λ x. hit (f x)) (look ys hit free d (n - length xs))) is ∙ sym (ap (λ s. found_or s hit (free (n - length (map f xs ++ ys)))) (append_found (map f xs) ys o.far (f x) (map_found f xs o.far x is)))
           | past lx is ↦ (let k : ℕ = o.far - length xs in let e1 : n - length xs ≡ d + (o.far - length xs) = omega (arith, o.is) in let e2 : o.far ≡ length (map f xs) + (o.far - length xs) = omega (arith, length-map xs f) in let e3 : (n - length xs) - length ys ≡ n - length (map f xs ++ ys) = omega (arith, length-map xs f, length-append (map f xs) ys) in
               ap (λ s. found_or s (λ x. hit (f x)) (look ys hit free d (n - length xs))) is
               ∙ look_out ys hit free d (n - length xs) (o.far - length xs) e1
               ∙ ap (λ (m : ℕ). found_or (slice_get ys (o.far - length xs)) hit (free m)) e3
-              ∙ ap (λ s. found_or s hit (free (n - length (map f xs ++ ys)))) (sym (append_past (map f xs) ys (o.far - length xs)) ∙ ap (slice_get (map f xs ++ ys)) (sym e2))) ]
-        ∙ sym (look_out (map f xs ++ ys) hit free d n o.far o.is) ]
+              ∙ ap (λ s. found_or s hit (free (n - length (map f xs ++ ys)))) (sym (append_past (map f xs) ys (o.far - length xs)) ∙ ap (slice_get (map f xs ++ ys)) (sym e2)))
+        ]
+        ∙ sym (look_out (map f xs ++ ys) hit free d n o.far o.is)
+  ]
 
 loc_under : (g : Substitution) (e l : ℕ) → look g.locations (λ x. x + e) (λ m. m) e (l + e) ≡ look g.locations (λ x. x + 0) (λ m. m) 0 l + e
 loc_under g e l =
@@ -167,9 +171,9 @@ pub put_put : (g h : Substitution) (t : Ty) → walk (substituting g) outside (w
 put_put g h t =
     walk_walk (substituting g) (substituting h) outside t
     ∙ walk_alike (same_alike (after (substituting g) (substituting h)) (substituting (substitution_under h g))
-        (λ d n. look_map (λ m. (substituting g).location d m) h.locations (λ l. l + d.locations) (λ m. m) d.locations n
-          ∙ look_ext h.locations (λ l. (substituting g).location d (l + d.locations)) (λ l. (substituting g).location outside l + d.locations) (λ m. (substituting g).location d m) d.locations n (λ l. loc_under g d.locations l)
-          ∙ look_append (λ l. (substituting g).location outside l) h.locations g.locations (λ l. l + d.locations) (λ m. m) d.locations n)
-        (λ d n. look_map (λ u. walk (substituting g) d u) h.variables (λ u. raise d u) (λ m. Var m) d.variables n
-          ∙ look_ext h.variables (λ u. walk (substituting g) d (raise d u)) (λ u. raise d (walk (substituting g) outside u)) (λ m. (substituting g).variable d m) d.variables n (λ u. put_raised g d u)
-          ∙ look_append (λ u. walk (substituting g) outside u) h.variables g.variables (λ u. raise d u) (λ m. Var m) d.variables n)) outside outside refl t
+    (λ d n. look_map (λ m. (substituting g).location d m) h.locations (λ l. l + d.locations) (λ m. m) d.locations n
+    ∙ look_ext h.locations (λ l. (substituting g).location d (l + d.locations)) (λ l. (substituting g).location outside l + d.locations) (λ m. (substituting g).location d m) d.locations n (λ l. loc_under g d.locations l)
+    ∙ look_append (λ l. (substituting g).location outside l) h.locations g.locations (λ l. l + d.locations) (λ m. m) d.locations n)
+    (λ d n. look_map (λ u. walk (substituting g) d u) h.variables (λ u. raise d u) (λ m. Var m) d.variables n
+    ∙ look_ext h.variables (λ u. walk (substituting g) d (raise d u)) (λ u. raise d (walk (substituting g) outside u)) (λ m. (substituting g).variable d m) d.variables n (λ u. put_raised g d u)
+    ∙ look_append (λ u. walk (substituting g) outside u) h.variables g.variables (λ u. raise d u) (λ m. Var m) d.variables n)) outside outside refl t

@@ -4,3 +4,4 @@ pub mod Arguments
 pub mod Unchanged
 pub mod Carried
 pub mod Answered
+pub mod Agreeing

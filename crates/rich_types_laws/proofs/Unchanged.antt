@@ -1,23 +1,20 @@
 -- A walk whose leaves give back what they get gives back the type.
-use Rattle.std.proofs.Common.{◌≡◌, ◌∙◌, ℕ, ◌+◌, List, [], ◌∷◌, refl, ap, sym, cond, Bool, true, false, arith}
+use Rattle.std.proofs.Common.{◌≡◌, ◌∙◌, ℕ, ◌+◌, List, [], ◌∷◌, refl, ap, sym, cond, true, false, arith}
 use Rattle.std.proofs.Math.Dec.{ltb}
-use Rattle.rw_types.specs.declared.types.Mem.{Mem}
-use Rattle.rw_types.specs.declared.types.Qual.{Qual}
 use Rattle.rw_types.specs.declared.types.Binder.{Binder}
 use Rattle.rw_types.specs.declared.types.Slot.{Slot}
-use Rattle.rw_types.specs.declared.types.FunType.{FunType}
-use Rattle.rw_types.specs.declared.types.Ty.{Ty, Of, Var, Rec', Row_of-Ty, end_of-Ty, more_of-Ty, items-the_row-Ty, out-Ty, roll-out-Ty}
-use Rattle.rw_types.specs.declared.types.Ty.TheVariants.{Rec, rolls-Rec}
+use Rattle.rw_types.specs.declared.types.Ty.{Ty, Of, Var, Rec', Row_of-Ty, end_of-Ty, more_of-Ty, items-the_row-Ty}
+use Rattle.rw_types.specs.declared.types.Ty.TheVariants.{Rec}
 use Rattle.rw_types.specs.declared.types.Pre.{Pre, Unit, I32, I64, Tuple', Ref, Ptr, Cap, Own, Hidden', Code', end_of-FunType, more_of-FunType, out-Pre, roll-out-Pre}
-use Rattle.rw_types.specs.declared.types.Pre.TheVariants.{Tuple, Hidden, Code, rolls-Tuple, rolls-Hidden, rolls-Code}
+use Rattle.rw_types.specs.declared.types.Pre.TheVariants.{Tuple, Hidden, Code, rolls-Tuple, rolls-Code}
 use Rattle.rw_types.specs.declared.types.Heap.{Heap, Struct', Variant', Array', Exist', Row_of-Slot, end_of-Slot, more_of-Slot, items-the_row-Slot, out-Heap, roll-out-Heap}
-use Rattle.rw_types.specs.declared.types.Heap.TheVariants.{Struct, Variant, Array, Exist, rolls-Struct, rolls-Variant, rolls-Array, rolls-Exist}
+use Rattle.rw_types.specs.declared.types.Heap.TheVariants.{Struct, Variant, Array, Exist, rolls-Struct, rolls-Variant}
 use Rattle.rw_types.specs.declared.types.Ty.{items_hidden-the_row-Ty-1}
 use Rattle.rw_types.specs.declared.types.Heap.{items_hidden-the_row-Slot-0}
-use Rattle.rw_types.specs.declared.types.Heap.TheBlock.{shown-the_row-Ty-1, shown-the_row-Slot-0, shown-the_row-FunType-3, hidden-the_row-FunType-3, hidden-the_row-Ty-1, shown-the_row-Ty-2, hidden-the_row-Ty-2}
+use Rattle.rw_types.specs.declared.types.Heap.TheBlock.{shown-the_row-Ty-1, shown-the_row-Slot-0, shown-the_row-FunType-3, hidden-the_row-FunType-3, hidden-the_row-Ty-2}
 use Rattle.rich_types.specs.declared.depth.Depth.{Depth}
 use Rattle.rich_types.specs.Walks.{Leaves, below, below_location, below_variable, outside, walk, walk_pre, walk_heap, walk_row, walk_slot_row}
-use Rattle.rich_types.specs.Instances.{raise_number, raising, raise}
+use Rattle.rich_types.specs.Instances.{raise_number, raising}
 use Rattle.rich_types_laws.specs.Laws.{RaisedByNothing}
 
 -- the types and slots that stand in a form
@@ -76,6 +73,7 @@ pub record GivesBack (f : Leaves) : Type 0 where
 module _ (f : Leaves) (back : GivesBack f) where
   mutual
     unfolding hidden-the_row-Ty-2 denote.Hole.Carrier.hidden
+
     pub unchanged : (d : Depth) (t : Ty) → walk f d t ≡ t
     unchanged d (Of q p) = ap (Of q) (unchanged_pre d p)
     unchanged d (Var n) = back.variable d n

@@ -1,17 +1,16 @@
 -- One walk after another is one walk, and walks whose leaves answer alike are the same: by induction on types.
-use Rattle.std.proofs.Common.{◌≡◌, ℕ, ◌+◌, List, [], ◌∷◌, refl, sym, ap, ◌∙◌}
+use Rattle.std.proofs.Common.{◌≡◌, ℕ, List, [], ◌∷◌, refl, ap, ◌∙◌}
 use Rattle.rich_types.specs.declared.depth.Depth.{Depth}
 use Rattle.rw_types.specs.declared.types.Binder.{Binder}
 use Rattle.rw_types.specs.declared.types.Binder.TheVariants.{Loc, Kind}
 use Rattle.rw_types.specs.declared.types.Slot.{Slot}
-use Rattle.rw_types.specs.declared.types.FunType.{FunType}
 use Rattle.rw_types.specs.declared.types.Ty.{Ty, Of, Var, Rec', Row_of-Ty, end_of-Ty, more_of-Ty}
 use Rattle.rw_types.specs.declared.types.Ty.TheVariants.{Rec}
 use Rattle.rw_types.specs.declared.types.Pre.{Pre, Unit, I32, I64, Tuple', Ref, Ptr, Cap, Own, Hidden', Code', end_of-FunType, more_of-FunType}
 use Rattle.rw_types.specs.declared.types.Pre.TheVariants.{Tuple, Hidden, Code}
 use Rattle.rw_types.specs.declared.types.Heap.{Heap, Struct', Variant', Array', Exist', Row_of-Slot, end_of-Slot, more_of-Slot}
 use Rattle.rw_types.specs.declared.types.Heap.TheVariants.{Struct, Variant, Array, Exist}
-use Rattle.rich_types.specs.Walks.{Leaves, walk, walk_pre, walk_heap, walk_row, walk_slot_row, walk_list, walk_slots, walk_function, below, below_location, below_variable}
+use Rattle.rich_types.specs.Walks.{Leaves, walk, walk_pre, walk_heap, walk_row, walk_slot_row, walk_list, walk_slots, below, below_location, below_variable}
 use Rattle.rich_types.proofs.Shapes.{walk-Rec, walk-Tuple, walk-Hidden, walk-Code, walk-Struct, walk-Variant, walk-Array, walk-Exist}
 
 -- one change after another

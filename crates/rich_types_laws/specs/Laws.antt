@@ -5,7 +5,8 @@ use Rattle.rw_types.specs.declared.types.Arg.TheVariants.{Loc, Given}
 use Rattle.rw_types.specs.declared.types.Binder.{Binder}
 use Rattle.rw_types.specs.declared.types.Binder.TheVariants.{Loc as location_binder, Kind}
 use Rattle.rw_types.specs.declared.types.Ty.{Ty}
-use Rattle.rich_types.specs.Scopes.{Scope, within, memory_of}
+use Rattle.rich_typing.specs.Kinds.{qual_of, size}
+use Rattle.rich_types.specs.Scopes.{Scope, within, scope_of, memory_of}
 use Rattle.rich_types.specs.Sizes.{qual_under, size_under}
 use Rattle.rich_types.specs.WellFormed.{IsWellFormed, IsBodyOf}
 use Rattle.rich_types.specs.Walks.{outside}
@@ -41,4 +42,12 @@ AnswerAll c _ _ = ⊥
 -- and the size that the type has under these
 abbrev pub WellFormedInstance : Type 0
 WellFormedInstance = (c : Scope) (args : List Arg) (bs : List Binder) (t : Ty) → AnswerAll c args bs → IsWellFormed (within bs c) t →
-  IsWellFormed c (instance t args) × (qual_under c (instance t args) ≡ qual_under (within bs c) t) × (size_under c (instance t args) ≡ size_under (within bs c) t)
+    IsWellFormed c (instance t args) × (qual_under c (instance t args) ≡ qual_under (within bs c) t) × (size_under c (instance t args) ≡ size_under (within bs c) t)
+
+-- the sizes that the rules of bodies speak of are those of types
+abbrev pub SizesAgree : Type 0
+SizesAgree = (bs : List Binder) (t : Ty) → size bs t ≡ size_under (scope_of bs) t
+
+-- and so are the qualifiers
+abbrev pub QualifiersAgree : Type 0
+QualifiersAgree = (bs : List Binder) (t : Ty) → qual_of bs t ≡ qual_under (scope_of bs) t

@@ -3,4 +3,4 @@
 
 mod laws;
 
-pub use laws::instances;
+pub use laws::{instances, one_size};
