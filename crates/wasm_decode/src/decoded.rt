@@ -6,15 +6,9 @@ use std::marker::Model;
 use wasm_ast::WModule;
 
 /// A module that was read from bytes: only a decoder makes one, and it is in this project's profile.
+#[derive(Drop)]
 pub struct Decoded {
     module: WModule,
-}
-
-/// Written out, so that a function that drops one calls this one, and does not repeat the destructors of a module.
-impl Drop for Decoded {
-    fn drop(self) {
-        let Decoded { module: _ } = self;
-    }
 }
 
 impl Model for Decoded {

@@ -11,15 +11,9 @@ use wasm_reading::DecodeError;
 
 /// A decoder in the middle of its input. It keeps the module so far, and no copy of the input. Contracts see its state;
 /// every module that it may still answer is in this project's profile.
+#[derive(Drop)]
 pub struct Decoder {
     state: DecoderState,
-}
-
-/// Written out, so that a function that drops one calls this one, and does not repeat the destructors of its state.
-impl Drop for Decoder {
-    fn drop(self) {
-        let Decoder { state: _ } = self;
-    }
 }
 
 impl Model for Decoder {
