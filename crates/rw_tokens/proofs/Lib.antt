@@ -1,0 +1,5 @@
+pub mod Blanks
+pub mod Encoded
+pub mod Names
+pub mod Taking
+pub mod Words
