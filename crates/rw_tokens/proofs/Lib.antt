@@ -1,4 +1,5 @@
 pub mod Blanks
+pub mod Closings
 pub mod Encoded
 pub mod Names
 pub mod Taking

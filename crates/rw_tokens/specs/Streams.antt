@@ -1,5 +1,5 @@
 -- A text that is read from the left: what is left of it, and the tokens in that (this project's own).
-use Rattle.std.specs.Prelude.{◌≡◌, ℕ, List, Result, Ok, Err}
+use Rattle.std.specs.Prelude.{[], ◌∷◌, Bool, true, false, ⊤, ◌-◌, ◌≡◌, ℕ, List, Result, Ok, Err}
 use Rattle.rich_text.specs.Tokens.{Token, Opening, Closing, Word, Quoted, Fault, BadUtf8, BadToken, TooDeep, NumberOut, BadForm, Unended}
 use Rattle.rich_text.specs.Places.{Place}
 use Rattle.rich_text.specs.Lexing.{Lexed, InBlank, stop, before, lexed_from}
@@ -53,3 +53,16 @@ found_of e = record { fault = fault_of e.fault; at = place_of e.at }
 abbrev pub Gives : Left → Left → Result TextToken FirstFault → Type 0
 Gives old new (Ok t) = (ahead old ≡ before (token_of t.symbol) (place_of t.at) (ahead new)) × (new.depth ≡ open_behind (token_of t.symbol) old.depth)
 Gives old new (Err e) = ahead old ≡ stop (fault_of e.fault) (place_of e.at)
+
+-- tokens that begin with no `)`
+abbrev pub BeginNotClosing : List Token → Type 0
+BeginNotClosing [] = ⊤
+BeginNotClosing (Closing ∷ ts) = ⊥
+BeginNotClosing (Opening ∷ ts) = ⊤
+BeginNotClosing (Word w ∷ ts) = ⊤
+BeginNotClosing (Quoted n ∷ ts) = ⊤
+
+-- a `)` that was taken off; or none, and all is left
+abbrev pub Closes : Left → Left → Bool → Type 0
+Closes old new true = ((at : Place) × (ahead old ≡ before Closing at (ahead new))) × (new.depth ≡ old.depth - 1)
+Closes old new false = (ahead old ≡ ahead new) × (new.depth ≡ old.depth) × BeginNotClosing (ahead old).tokens

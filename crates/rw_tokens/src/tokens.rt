@@ -1,7 +1,8 @@
 ghost use Rattle.std.specs.Prelude.{◌≡◌, ◌≤◌, length};
 ghost use Rattle.rich_text.specs.Places.{the_start};
 ghost use Rattle.rw_tokens.specs.Found.{IsNoMark, first_of, fits_name};
-ghost use Rattle.rw_tokens.specs.Streams.{Gives, place_of};
+ghost use Rattle.rw_tokens.specs.Streams.{Closes, Gives, place_of, token_of};
+ghost use Rattle.rich_text.specs.Tokens.{Closing};
 
 use crate::cursor::Cursor;
 use crate::symbols::{FirstFault, Position, Symbol, TextFault, TextToken};
@@ -62,6 +63,23 @@ impl<'a> Tokens<'a> {
         }
     }
 
+    /// Takes the `)` off that comes next. False where another token comes, or none; then the tokens ahead stay.
+    pub fn closes(&mut self) -> bool
+        ensures closes { Closes self.old self.new result }
+        ensures within { self.new.depth ≤ 200 }
+    {
+        self.cursor.skip();
+        let at = self.cursor.position();
+        let Some(first) = self.cursor.first() else {
+            return false;
+        };
+        if first != b')' {
+            return false;
+        }
+        self.close(at);
+        true
+    }
+
     /// Takes the `(` off that comes next.
     fn open(&mut self, at: Position) -> Result<TextToken<'a>, FirstFault>
         requires next { first_of self.old.bytes ≡ Some 40 }
@@ -85,6 +103,7 @@ impl<'a> Tokens<'a> {
         requires next { first_of self.old.bytes ≡ Some 41 }
         requires place { place_of at ≡ self.old.at }
         ensures gives { Gives self.old self.new (Ok result) }
+        ensures symbol { token_of result.symbol ≡ Closing }
         ensures within { self.new.depth ≤ 200 }
     {
         self.depth = self.depth.saturating_sub(1);
