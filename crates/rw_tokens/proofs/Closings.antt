@@ -1,10 +1,9 @@
 -- Where the first byte is no `)`, no `)` is the first token.
-use Rattle.std.proofs.Common.{arith, ◌≡◌, ◌∙◌, ℕ, suc, Bool, true, false, List, [], ◌∷◌, refl, sym, ap, subst, inl, inr, Option, None, Some}
-use Rattle.std.specs.Prelude.{⊤, if◌then◌else◌, ◌==◌, reverse, nat_lt}
-use Rattle.std.proofs.lemmas.Bool.{cases_Bool}
-use Rattle.rich_text.specs.Tokens.{Token, Opening, Closing, Word, Quoted, BadToken, TooDeep, is_word_byte, is_blank, is_name, nesting_limit}
+use Rattle.std.proofs.Common.{arith, ◌≡◌, ◌∙◌, ℕ, Bool, true, false, List, [], ◌∷◌, refl, sym, ap, Option, Some}
+use Rattle.std.specs.Prelude.{if◌then◌else◌, ◌==◌, reverse, nat_lt}
+use Rattle.rich_text.specs.Tokens.{is_word_byte, is_blank, is_name, nesting_limit}
 use Rattle.rich_text.specs.Places.{Place, place_behind}
-use Rattle.rich_text.specs.Lexing.{Lexed, Inside, InBlank, InComment, AfterSemicolon, InWord, InName, stop, before, begun, lexed_from}
+use Rattle.rich_text.specs.Lexing.{Lexed, InBlank, AfterSemicolon, InWord, InName, lexed_from}
 use Rattle.rw_tokens.specs.Streams.{BeginNotClosing}
 use Rattle.rw_tokens.specs.Found.{begins_blank, begins_comment}
 

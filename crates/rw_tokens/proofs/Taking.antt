@@ -1,16 +1,13 @@
 -- What taking a word or a name makes of what is left.
-use Rattle.std.proofs.Common.{◌≡◌, ◌∙◌, ℕ, Bool, true, false, List, [], ◌∷◌, take, drop, length, refl, sym, ap, subst, inl, inr, Result, Ok, Err, Option, Some}
+use Rattle.std.proofs.Common.{◌≡◌, ◌∙◌, ℕ, Bool, true, false, List, [], ◌∷◌, take, drop, length, refl, sym, ap, subst, inl, inr, Option, Some}
 use Rattle.std.specs.Prelude.{◌==◌, ◌&&◌, reverse}
 use Rattle.std.specs.List.{list_all, prefix_len}
 use Rattle.std.proofs.lemmas.Bool.{false≢true, cond-true, cases_Bool}
 use Rattle.rich_text.specs.Tokens.{Word, Quoted, BadToken, is_word_byte, is_name_byte, is_name}
 use Rattle.rich_text.specs.Places.{Place, place_behind}
 use Rattle.rich_text.specs.Lexing.{InBlank, InName, stop, before, lexed_from}
-use Rattle.rw_tokens.specs.declared.symbols.FirstFault.{FirstFault}
 use Rattle.rw_tokens.specs.declared.symbols.Position.{Position}
-use Rattle.rw_tokens.specs.declared.symbols.TextToken.{TextToken}
-use Rattle.rich_text.specs.Layout.{open_behind}
-use Rattle.rw_tokens.specs.Streams.{Remains, Left, Gives, ahead, place_of, token_of}
+use Rattle.rw_tokens.specs.Streams.{Remains, Left, ahead, place_of}
 use Rattle.rw_tokens.specs.Found.{TakesByte, TakesQuote, along, first_of, fits_name}
 use Rattle.rw_tokens.proofs.Blanks.{taken}
 use Rattle.rw_tokens.proofs.Words.{right, run_over, run_more, word_whole, whole_word}
@@ -110,9 +107,3 @@ name_given old c0 c1 c2 c3 d p n h quote behind fits =
         ∙ ap (λ x. x && list_all is_name_byte n) fits
         ∙ ap (λ x. list_all is_name_byte x) h.name
         ∙ run_passes is_name_byte c1.bytes
-
--- ---- behind what is passed by
-
-pub gives_behind : (old mid new : Left) (r : Result TextToken FirstFault) → ahead old ≡ ahead mid → mid.depth ≡ old.depth → Gives mid new r → Gives old new r
-gives_behind old mid new (Ok t) e d g = (e ∙ g.0, g.1 ∙ ap (λ n. open_behind (token_of t.symbol) n) d)
-gives_behind old mid new (Err f) e d g = e ∙ g

@@ -49,10 +49,10 @@ fault_of fault.Unended = Unended
 abbrev pub found_of : FirstFault → Found
 found_of e = record { fault = fault_of e.fault; at = place_of e.at }
 
--- a token and what is left behind it; or what ends the tokens
+-- a token and what is left behind it; or what ends the tokens, and then the tokens ahead stay
 abbrev pub Gives : Left → Left → Result TextToken FirstFault → Type 0
 Gives old new (Ok t) = (ahead old ≡ before (token_of t.symbol) (place_of t.at) (ahead new)) × (new.depth ≡ open_behind (token_of t.symbol) old.depth)
-Gives old new (Err e) = ahead old ≡ stop (fault_of e.fault) (place_of e.at)
+Gives old new (Err e) = (ahead old ≡ stop (fault_of e.fault) (place_of e.at)) × (ahead new ≡ ahead old)
 
 -- tokens that begin with no `)`
 abbrev pub BeginNotClosing : List Token → Type 0

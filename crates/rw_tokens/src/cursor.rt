@@ -49,6 +49,17 @@ impl<'a> Cursor<'a> {
         }
     }
 
+    /// The same again.
+    pub fn again(&self) -> Cursor<'a>
+        ensures { result ≡ self.now }
+    {
+        Cursor {
+            rest: self.rest,
+            line: self.line,
+            column: self.column,
+        }
+    }
+
     /// The bytes that are left.
     pub fn as_slice(&self) -> &'a [u8]
         ensures { result.now ≡ self.now.bytes }

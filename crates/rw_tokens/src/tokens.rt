@@ -45,7 +45,7 @@ impl<'a> Tokens<'a> {
     }
 
     /// Takes the next token off. An error is what ends the tokens: `Unended` at the text's end, `BadToken` where no
-    /// token begins, `TooDeep` at a `(` where 200 lists are open.
+    /// token begins, `TooDeep` at a `(` where 200 lists are open. After one the tokens ahead are as before.
     pub fn next(&mut self) -> Result<TextToken<'a>, FirstFault>
         ensures gives { Gives self.old self.new result }
         ensures within { self.new.depth ≤ 200 }
@@ -121,14 +121,16 @@ impl<'a> Tokens<'a> {
         ensures gives { Gives self.old self.new result }
         ensures within { self.new.depth ≤ 200 }
     {
-        self.cursor.take();
-        let name = self.cursor.name();
-        if !self.cursor.end_quote() {
+        let mut cursor = self.cursor.again();
+        cursor.take();
+        let name = cursor.name();
+        if !cursor.end_quote() {
             return Err(fault_at(TextFault::BadToken, at));
         }
         if !fits(name.as_slice()) {
             return Err(fault_at(TextFault::BadToken, at));
         }
+        self.cursor = cursor;
         Ok(TextToken {
             symbol: Symbol::Quoted(name),
             at,

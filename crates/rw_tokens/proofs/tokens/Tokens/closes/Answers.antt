@@ -1,4 +1,4 @@
-use Rattle.std.proofs.Common.{◌≡◌, ◌∙◌, sym, ap, subst, Option, Some, ℕ, ◌-◌}
+use Rattle.std.proofs.Common.{◌∙◌, sym, ap, subst, ◌-◌}
 use Rattle.rich_text.specs.Lexing.{Lexed, before}
 use Rattle.rich_text.specs.Layout.{open_behind}
 use Rattle.rich_text.specs.Tokens.{Token}

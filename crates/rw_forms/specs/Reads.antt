@@ -1,0 +1,113 @@
+-- What reading a form makes of the tokens that are left, against the definition of reading (this project's own).
+use Rattle.std.specs.Prelude.{⊤, ◌≡◌, ◌≢◌, ℕ, suc, ◌+◌, ◌-◌, ◌<◌, List, [], ◌∷◌, ◌++◌, length, Option, None, Some, Result, Ok, Err, Bool, true}
+use Rattle.rich_text.specs.Forms.{Form, Meaning}
+use Rattle.rich_text.specs.Tokens.{Token, Opening, Closing, Word, Quoted, Fault, BadForm, Unended, nesting_limit}
+use Rattle.rich_text.specs.Places.{Place}
+use Rattle.rich_text.specs.Lexing.{Lexed, lexed, before}
+use Rattle.rich_text.specs.Grammars.{Part, PartValue, a_form, a_number, Fields, FieldsValue}
+use Rattle.rich_text.specs.Reading.{Reader, Stop, has_lists, headed, look_up, read_fields, read_inside, read_part}
+use Rattle.rich_text.specs.Texts.{Found, found}
+use Rattle.rich_text.specs.FirstVersion.{first_version}
+use Rattle.rw_tokens.specs.declared.symbols.FirstFault.{FirstFault}
+use Rattle.rw_tokens.specs.declared.symbols.Position.{Position}
+use Rattle.rw_tokens.specs.declared.symbols.TextToken.{TextToken}
+use Rattle.rw_tokens.specs.Streams.{Left, ahead, found_of, place_of, token_of}
+use Rattle.rw_forms.specs.declared.parser.ReadError.{ReadError}
+use Rattle.rw_forms.specs.declared.parser.ReadError.TheVariants.{Fault as a_fault, Memory}
+
+-- a text, and what is left of it
+pub record Parse : Type 0 where
+  pub text : List ℕ
+  pub left : Left
+
+-- the tokens that are left
+abbrev pub tokens_left : Parse → List Token
+tokens_left p = (ahead p.left).tokens
+
+-- how many lists may still open
+abbrev pub room : Parse → ℕ
+room p = nesting_limit - p.left.depth
+
+-- tokens that are the last of others, and end as they do
+pub record IsEnd (whole part : Lexed) : Type 0 where
+  pub front : List Token
+  pub fronts : List Place
+  pub tokens : whole.tokens ≡ front ++ part.tokens
+  pub places : whole.places ≡ fronts ++ part.places
+  pub same : length front ≡ length fronts
+  pub ending : whole.ending ≡ part.ending
+  pub at : whole.at ≡ part.at
+
+-- what is read: a part; the fields of a list, and its `)`; or what stands behind a head's word
+pub data Wanted : Type 0 where
+  a_part : Part → Wanted
+  the_fields : Fields → Wanted
+  behind_head : Form → List ℕ → Wanted
+
+-- what it stands for
+abbrev pub WantedValue : Wanted → Type 0
+WantedValue (a_part k) = PartValue k
+WantedValue (the_fields f) = FieldsValue f
+WantedValue (behind_head s w) = Meaning s
+
+-- its reader, where so many lists may open
+abbrev pub reader_of : (x : Wanted) → ℕ → Reader (WantedValue x)
+reader_of (a_part k) n = read_part first_version n k
+reader_of (the_fields f) n = read_fields (read_part first_version n) f
+reader_of (behind_head s w) n = headed (read_part first_version n) (look_up w (first_version s).heads) (first_version s).plain (Word w)
+
+-- a value was read, and so many lists were closed
+pub record Gave (x : Wanted) (closed : ℕ) (old new : Parse) (v : WantedValue x) : Type 0 where
+  pub reads : reader_of x (room old) (tokens_left old) ≡ Ok (v, tokens_left new)
+  pub text : new.text ≡ old.text
+  pub depth : new.left.depth + closed ≡ old.left.depth
+  pub shorter : length (tokens_left new) < length (tokens_left old)
+
+-- a fault was met, at its place in the text
+pub record Failed (x : Wanted) (old : Parse) (f : FirstFault) : Type 0 where
+  pub stop : Stop
+  pub reads : reader_of x (room old) (tokens_left old) ≡ Err stop
+  pub place : found (lexed old.text) stop ≡ found_of f
+
+-- nothing was read; want of memory alone is free
+pub record Fails (x : Wanted) (old : Parse) (e : ReadError) : Type 0 where
+  pub failed : (f : FirstFault) → e ≡ a_fault f → Failed x old f
+
+-- what a reader in the code answers
+abbrev pub Reads : (x : Wanted) → ℕ → Parse → Parse → Result (WantedValue x) ReadError → Type 0
+Reads x closed old new (Ok v) = Gave x closed old new v
+Reads x closed old new (Err e) = Fails x old e
+
+-- a token was taken off
+pub record Took (old new : Parse) (t : TextToken) : Type 0 where
+  pub tokens : tokens_left old ≡ token_of t.symbol ∷ tokens_left new
+  pub text : new.text ≡ old.text
+  pub place : (fault : Fault) → found (lexed old.text) (record { fault = fault; left = suc (length (tokens_left new)) }) ≡ record { fault = fault; at = place_of t.at }
+
+-- no token is left
+pub record Ended (old : Parse) (f : FirstFault) : Type 0 where
+  pub none : tokens_left old ≡ []
+  pub place : found (lexed old.text) (record { fault = Unended; left = 0 }) ≡ found_of f
+
+-- a word was taken off
+pub record TookWord (old new : Parse) (w : List ℕ) (at : Position) : Type 0 where
+  pub tokens : tokens_left old ≡ Word w ∷ tokens_left new
+  pub text : new.text ≡ old.text
+  pub depth : new.left.depth ≡ old.left.depth
+  pub place : (fault : Fault) → found (lexed old.text) (record { fault = fault; left = suc (length (tokens_left new)) }) ≡ record { fault = fault; at = place_of at }
+
+-- where reading stops that wants a word
+abbrev pub StopsAtWord : List Token → Stop → Type 0
+StopsAtWord [] e = e ≡ record { fault = Unended; left = 0 }
+StopsAtWord (Word w ∷ ts) e = ⊥
+StopsAtWord (Opening ∷ ts) e = e ≡ record { fault = BadForm; left = length (Opening ∷ ts) }
+StopsAtWord (Closing ∷ ts) e = e ≡ record { fault = BadForm; left = length (Closing ∷ ts) }
+StopsAtWord (Quoted n ∷ ts) e = e ≡ record { fault = BadForm; left = length (Quoted n ∷ ts) }
+
+pub record NoWord (old : Parse) (f : FirstFault) : Type 0 where
+  pub stop : Stop
+  pub stops : StopsAtWord (tokens_left old) stop
+  pub place : found (lexed old.text) stop ≡ found_of f
+
+pub record FailsAtWord (old : Parse) (e : ReadError) : Type 0 where
+  pub failed : (f : FirstFault) → e ≡ a_fault f → NoWord old f

@@ -1,0 +1,125 @@
+ghost use Rattle.std.specs.Prelude.{◌≡◌, ◌≤◌, ◌↔◌, IfOk, IsTrue, MatchResult};
+ghost use Rattle.rich_text.specs.Forms.{memory_form};
+ghost use Rattle.rich_text.specs.Grammars.{a_form, done};
+ghost use Rattle.rich_text.specs.Layout.{open_behind};
+ghost use Rattle.rich_text.specs.Places.{the_start};
+ghost use Rattle.rw_forms.specs.Reads.{Ended, FailsAtWord, Reads, Took, TookWord, a_part, the_fields};
+ghost use Rattle.rw_tokens.specs.Streams.{token_of};
+
+use rw_tokens::{FirstFault, Position, Spelling, Symbol, TextFault, TextToken, Tokens};
+use rw_types::Mem;
+use std::alloc::{AllocError, Global};
+use std::marker::Model;
+
+/// Why a text is not read; this project's own.
+#[derive(Debug, Drop)]
+pub enum ReadError {
+    /// The text's first fault.
+    Fault(FirstFault),
+    /// Memory is wanting.
+    Memory,
+}
+
+/// A text of which forms are read from the left. Contracts see the text and what is left of it.
+pub struct Parser<'a> {
+    alloc: Global,
+    text: &'a [u8],
+    tokens: Tokens<'a>,
+}
+
+impl<'a> Model for Parser<'a> {
+    ghost use Rattle.rich_text.specs.Lexing.{lexed};
+    ghost use Rattle.rw_tokens.specs.Streams.{ahead};
+    ghost use Rattle.rw_forms.specs.Reads.{IsEnd, Parse};
+
+    ghost Value = { Parse };
+
+    ghost view = { λ p. record { text = p.text.now; left = p.tokens } };
+
+    ghost invariant = { λ p. IsEnd (lexed p.text.now) (ahead p.tokens) };
+}
+
+impl<'a> Parser<'a> {
+    /// A text, of which nothing was read.
+    pub fn new(alloc: Global, text: &'a [u8]) -> Parser<'a>
+        ensures { result ≡ record { text = text.now; left = record { bytes = text.now; at = the_start; depth = 0 } } }
+    {
+        Parser {
+            alloc,
+            text,
+            tokens: Tokens::new(text),
+        }
+    }
+
+    /// Takes the next token off. An error is what ends the tokens.
+    fn next(&mut self) -> Result<TextToken<'a>, FirstFault>
+        ensures took { MatchResult result (Took self.old self.new) (Ended self.old) }
+        ensures depth { IfOk result (λ t. self.new.left.depth ≡ open_behind (token_of t.symbol) self.old.left.depth) }
+        ensures within { self.new.left.depth ≤ 200 }
+    {
+        self.tokens.next()
+    }
+
+    /// Takes a `)` off.
+    pub fn close(&mut self) -> Result<(), ReadError>
+        ensures { Reads (the_fields done) 1 self.old self.new result }
+    {
+        let TextToken { symbol, at } = self.next()?;
+        match symbol {
+            Symbol::Closing => Ok(()),
+            _ => Err(bad_form(at)),
+        }
+    }
+
+    /// Takes a word off.
+    fn word(&mut self) -> Result<(Spelling<'a>, Position), ReadError>
+        ensures { MatchResult result (λ p. TookWord self.old self.new p.0 p.1) (FailsAtWord self.old) }
+    {
+        let TextToken { symbol, at } = self.next()?;
+        match symbol {
+            Symbol::Word(word) => Ok((word, at)),
+            _ => Err(bad_form(at)),
+        }
+    }
+
+    /// A memory.
+    pub fn memory(&mut self) -> Result<Mem, ReadError>
+        ensures { Reads (a_part (a_form memory_form)) 0 self.old self.new result }
+    {
+        let (word, at) = self.word()?;
+        if is_word(&word, b"L") {
+            Ok(Mem::L)
+        } else if is_word(&word, b"U") {
+            Ok(Mem::U)
+        } else {
+            Err(bad_form(at))
+        }
+    }
+}
+
+impl From<FirstFault> for ReadError {
+    ghost use Rattle.std.specs.Prelude.{◌≡◌};
+    ghost use Rattle.rw_forms.specs.declared.parser.ReadError.TheVariants.{Fault};
+
+    ghost from_gives = { λ f e. e ≡ Fault f };
+
+    fn from(fault: FirstFault) -> ReadError {
+        ReadError::Fault(fault)
+    }
+}
+
+fn bad_form(at: Position) -> ReadError
+    ensures { result ≡ ReadError.Fault (record { fault = TextFault.BadForm; at = at }) }
+{
+    ReadError::Fault(FirstFault {
+        fault: TextFault::BadForm,
+        at,
+    })
+}
+
+/// Whether a word is this one.
+fn is_word(word: &Spelling<'_>, text: &[u8]) -> bool
+    ensures { IsTrue result ↔ (word.now ≡ text.now) }
+{
+    word.as_slice() == text
+}
