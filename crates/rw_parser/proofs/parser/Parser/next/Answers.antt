@@ -1,6 +1,6 @@
 use Rattle.std.proofs.Common.{refl}
-use Rattle.rw_forms.proofs.Ends.{end_next, took_or_ended}
-use Rattle.rw_forms.proofs.parser.Parser.next.Goals as goal
+use Rattle.rw_parser.proofs.Ends.{end_next, took_or_ended}
+use Rattle.rw_parser.proofs.parser.Parser.next.Goals as goal
 
 pub invariant_of-self : goal.invariant_of-self
 invariant_of-self c = end_next _ c.self.inside.tokens c.next.new.self c.next.result c.self.invariant c.next.ensures.gives

@@ -10,7 +10,7 @@ use Rattle.rw_tokens.specs.declared.symbols.FirstFault.{FirstFault}
 use Rattle.rw_tokens.specs.declared.symbols.TextToken.{TextToken}
 use Rattle.rw_tokens.specs.Streams.{Left, Gives, ahead, fault_of, token_of}
 use Rattle.rw_tokens.specs.Streams.{place_of as position}
-use Rattle.rw_forms.specs.Reads.{Ended, IsEnd, Parse, Took, tokens_left}
+use Rattle.rw_parser.specs.Reads.{Ended, IsEnd, Parse, Took, tokens_left}
 
 pub end_self : (l : Lexed) → IsEnd l l
 end_self l = record { front = []; fronts = []; tokens = refl; places = refl; same = refl; ending = refl; at = refl }

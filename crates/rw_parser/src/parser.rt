@@ -1,13 +1,13 @@
-ghost use Rattle.std.specs.Prelude.{◌≡◌, ◌≤◌, ◌↔◌, IfOk, IsTrue, MatchResult};
-ghost use Rattle.rich_text.specs.Forms.{memory_form};
+ghost use Rattle.std.specs.Prelude.{codes, ◌≡◌, ◌<◌, ◌≤◌, ◌↔◌, IfOk, IsTrue, MatchResult};
+ghost use Rattle.rich_text.specs.Forms.{binder_form, memory_form, qualifier_form};
 ghost use Rattle.rich_text.specs.Grammars.{a_form, done};
 ghost use Rattle.rich_text.specs.Layout.{open_behind};
 ghost use Rattle.rich_text.specs.Places.{the_start};
-ghost use Rattle.rw_forms.specs.Reads.{Ended, FailsAtWord, Reads, Took, TookWord, a_part, the_fields};
+ghost use Rattle.rw_parser.specs.Reads.{Ended, FailsAtWord, Reads, Took, TookWord, a_part, behind_head, the_fields};
 ghost use Rattle.rw_tokens.specs.Streams.{token_of};
 
 use rw_tokens::{FirstFault, Position, Spelling, Symbol, TextFault, TextToken, Tokens};
-use rw_types::Mem;
+use rw_types::{Binder, Mem, Qual};
 use std::alloc::{AllocError, Global};
 use std::marker::Model;
 
@@ -30,7 +30,7 @@ pub struct Parser<'a> {
 impl<'a> Model for Parser<'a> {
     ghost use Rattle.rich_text.specs.Lexing.{lexed};
     ghost use Rattle.rw_tokens.specs.Streams.{ahead};
-    ghost use Rattle.rw_forms.specs.Reads.{IsEnd, Parse};
+    ghost use Rattle.rw_parser.specs.Reads.{IsEnd, Parse};
 
     ghost Value = { Parse };
 
@@ -62,6 +62,7 @@ impl<'a> Parser<'a> {
 
     /// Takes a `)` off.
     pub fn close(&mut self) -> Result<(), ReadError>
+        requires { 0 < self.old.left.depth }
         ensures { Reads (the_fields done) 1 self.old self.new result }
     {
         let TextToken { symbol, at } = self.next()?;
@@ -95,11 +96,35 @@ impl<'a> Parser<'a> {
             Err(bad_form(at))
         }
     }
+
+    /// A qualifier.
+    pub fn qualifier(&mut self) -> Result<Qual, ReadError>
+        ensures { Reads (a_part (a_form qualifier_form)) 0 self.old self.new result }
+    {
+        let (word, at) = self.word()?;
+        if is_word(&word, b"unr") {
+            Ok(Qual::Unr)
+        } else if is_word(&word, b"lin") {
+            Ok(Qual::Lin)
+        } else {
+            Err(bad_form(at))
+        }
+    }
+
+    /// What stands behind `(loc`.
+    pub fn location_binder(&mut self) -> Result<Binder, ReadError>
+        requires { 0 < self.old.left.depth }
+        ensures { Reads (behind_head binder_form (codes "loc")) 1 self.old self.new result }
+    {
+        let memory = self.memory()?;
+        self.close()?;
+        Ok(Binder::Loc(memory))
+    }
 }
 
 impl From<FirstFault> for ReadError {
     ghost use Rattle.std.specs.Prelude.{◌≡◌};
-    ghost use Rattle.rw_forms.specs.declared.parser.ReadError.TheVariants.{Fault};
+    ghost use Rattle.rw_parser.specs.declared.parser.ReadError.TheVariants.{Fault};
 
     ghost from_gives = { λ f e. e ≡ Fault f };
 

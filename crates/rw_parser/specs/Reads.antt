@@ -12,8 +12,8 @@ use Rattle.rw_tokens.specs.declared.symbols.FirstFault.{FirstFault}
 use Rattle.rw_tokens.specs.declared.symbols.Position.{Position}
 use Rattle.rw_tokens.specs.declared.symbols.TextToken.{TextToken}
 use Rattle.rw_tokens.specs.Streams.{Left, ahead, found_of, place_of, token_of}
-use Rattle.rw_forms.specs.declared.parser.ReadError.{ReadError}
-use Rattle.rw_forms.specs.declared.parser.ReadError.TheVariants.{Fault as a_fault, Memory}
+use Rattle.rw_parser.specs.declared.parser.ReadError.{ReadError}
+use Rattle.rw_parser.specs.declared.parser.ReadError.TheVariants.{Fault as a_fault, Memory}
 
 -- a text, and what is left of it
 pub record Parse : Type 0 where

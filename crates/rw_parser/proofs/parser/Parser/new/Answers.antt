@@ -1,9 +1,9 @@
 use Rattle.std.proofs.Common.{sym, ap, subst}
 use Rattle.rich_text.specs.Lexing.{lexed}
 use Rattle.rw_tokens.specs.Streams.{Left, ahead}
-use Rattle.rw_forms.specs.Reads.{IsEnd}
-use Rattle.rw_forms.proofs.Ends.{end_self}
-use Rattle.rw_forms.proofs.parser.Parser.new.Goals as goal
+use Rattle.rw_parser.specs.Reads.{IsEnd}
+use Rattle.rw_parser.proofs.Ends.{end_self}
+use Rattle.rw_parser.proofs.parser.Parser.new.Goals as goal
 
 pub invariant_of-result : goal.invariant_of-result
 invariant_of-result c =

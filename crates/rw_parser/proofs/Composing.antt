@@ -13,9 +13,9 @@ use Rattle.rw_tokens.specs.declared.symbols.FirstFault.{FirstFault}
 use Rattle.rw_tokens.specs.declared.symbols.Position.{Position}
 use Rattle.rw_tokens.specs.declared.symbols.TextFault.TheVariants as fault
 use Rattle.rw_tokens.specs.Streams.{found_of, place_of}
-use Rattle.rw_forms.specs.declared.parser.ReadError.{ReadError}
-use Rattle.rw_forms.specs.declared.parser.ReadError.TheVariants.{Fault as a_fault, Memory}
-use Rattle.rw_forms.specs.Reads.{Fails, Failed, FailsAtWord, Gave, NoWord, Parse, StopsAtWord, TookWord, a_part, the_fields, behind_head, room, tokens_left}
+use Rattle.rw_parser.specs.declared.parser.ReadError.{ReadError}
+use Rattle.rw_parser.specs.declared.parser.ReadError.TheVariants.{Fault as a_fault, Memory}
+use Rattle.rw_parser.specs.Reads.{Fails, Failed, FailsAtWord, Gave, NoWord, Parse, StopsAtWord, TookWord, a_part, the_fields, behind_head, room, tokens_left}
 
 bind_ok : {A B : Type 0} (r : Reader A) (next : A → Reader B) (ts behind : List Token) (a : A) (all : Result (B × List Token) Stop) → r ts ≡ Ok (a, behind) → next a behind ≡ all → (r >>= next) ts ≡ all
 bind_ok r next ts behind a all e h = ap (λ x. and_then x next) e ∙ h
@@ -108,6 +108,15 @@ not_this w e es h =
       | inl q ↦ absurd (h (sym (same_sound e.0 w q)))
       | inr q ↦ cond-false (same_word e.0 w) (Some e.1) (look_up w es) q
     ]
+
+-- a word that no entry has
+abbrev pub IsNone : {X : Type 0} → List ℕ → List (List ℕ × X) → Type 0
+IsNone w [] = ⊤
+IsNone w (e ∷ es) = (w ≡ e.0 → ⊥) × IsNone w es
+
+pub none_of : {X : Type 0} (w : List ℕ) (es : List (List ℕ × X)) → IsNone w es → look_up w es ≡ None
+none_of w [] h = refl
+none_of w (e ∷ es) h = not_this w e es h.0 ∙ none_of w es h.1
 
 form_word : (s : Form) (n : ℕ) (w : List ℕ) (ts : List Token) → read_part first_version n (a_form s) (Word w ∷ ts) ≡ word_or (look_up w (first_version s).words) (Word w) ts
 form_word s zero w ts = refl
