@@ -2,13 +2,13 @@
 use Rattle.std.proofs.Common.{◌≡◌, ◌∙◌, ℕ, zero, suc, ◌+◌, ◌-◌, Bool, true, false, List, [], ◌∷◌, ◌++◌, length, refl, sym, ap, subst, append_assoc, length-append, add-zero, arith, Result, Ok, Err}
 use Rattle.std.specs.Prelude.{MatchResult, ◌==◌, if◌then◌else◌}
 use Rattle.std.proofs.lemmas.Bool.{cond-true, cond-false, ne_eqb}
-use Rattle.rich_text.specs.Tokens.{Token, Fault}
+use Rattle.rich_text.specs.Tokens.{Closing, Token, Fault}
 use Rattle.rich_text.specs.Places.{Place}
 use Rattle.rich_text.specs.Lexing.{Lexed, before, stop, lexed}
 use Rattle.rich_text.specs.Texts.{Found, found, place_of}
 use Rattle.rw_tokens.specs.declared.symbols.FirstFault.{FirstFault}
 use Rattle.rw_tokens.specs.declared.symbols.TextToken.{TextToken}
-use Rattle.rw_tokens.specs.Streams.{Left, Gives, ahead, fault_of, token_of}
+use Rattle.rw_tokens.specs.Streams.{Closes, Left, Gives, ahead, fault_of, token_of}
 use Rattle.rw_tokens.specs.Streams.{place_of as position}
 use Rattle.rw_parser.specs.Reads.{Ended, IsEnd, Parse, Took, tokens_left}
 
@@ -78,3 +78,7 @@ pub took_or_ended : (whole : Parse) (old : Parse) (new : Parse) (r : Result Text
     → MatchResult r (Took old new) (Ended old)
 took_or_ended whole old new (Ok t) e h text g = let P : Parse → Type 0 = λ p. Took p new t in subst P e (took_by whole new t h text g)
 took_or_ended whole old new (Err f) e h text g = let P : Parse → Type 0 = λ p. Ended p f in subst P e (ended_by whole new.left f h g)
+
+pub end_closes : (whole : Lexed) (old new : Left) (came : Bool) → IsEnd whole (ahead old) → Closes old new came → IsEnd whole (ahead new)
+end_closes whole old new true h g = end_after whole (ahead old) (ahead new) Closing g.0.0 h g.0.1
+end_closes whole old new false h g = let P : Lexed → Type 0 = λ l. IsEnd whole l in subst P g.0 h

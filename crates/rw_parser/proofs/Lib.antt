@@ -1,3 +1,4 @@
 pub mod Composing
 pub mod Ends
 pub mod Firsts
+pub mod Starts

@@ -1,5 +1,5 @@
 -- What reading a form makes of the tokens that are left, against the definition of reading (this project's own).
-use Rattle.std.specs.Prelude.{⊤, ◌≡◌, ◌≢◌, ℕ, suc, ◌+◌, ◌-◌, ◌<◌, List, [], ◌∷◌, ◌++◌, length, Option, None, Some, Result, Ok, Err, Bool, true}
+use Rattle.std.specs.Prelude.{⊤, ◌≤◌, false, ◌≡◌, ◌≢◌, ℕ, suc, ◌+◌, ◌-◌, ◌<◌, List, [], ◌∷◌, ◌++◌, length, Option, None, Some, Result, Ok, Err, Bool, true}
 use Rattle.rich_text.specs.Forms.{Form, Meaning}
 use Rattle.rich_text.specs.Tokens.{Token, Opening, Closing, Word, Quoted, Fault, BadForm, Unended, nesting_limit}
 use Rattle.rich_text.specs.Places.{Place}
@@ -11,7 +11,9 @@ use Rattle.rich_text.specs.FirstVersion.{first_version}
 use Rattle.rw_tokens.specs.declared.symbols.FirstFault.{FirstFault}
 use Rattle.rw_tokens.specs.declared.symbols.Position.{Position}
 use Rattle.rw_tokens.specs.declared.symbols.TextToken.{TextToken}
-use Rattle.rw_tokens.specs.Streams.{Left, ahead, found_of, place_of, token_of}
+use Rattle.rw_tokens.specs.Streams.{BeginNotClosing, Left, ahead, found_of, place_of, token_of}
+use Rattle.rw_parser.specs.declared.parser.FormStart.{FormStart}
+use Rattle.rw_parser.specs.declared.parser.FormStart.TheVariants as start
 use Rattle.rw_parser.specs.declared.parser.ReadError.{ReadError}
 use Rattle.rw_parser.specs.declared.parser.ReadError.TheVariants.{Fault as a_fault, Memory}
 
@@ -111,3 +113,50 @@ pub record NoWord (old : Parse) (f : FirstFault) : Type 0 where
 
 pub record FailsAtWord (old : Parse) (e : ReadError) : Type 0 where
   pub failed : (f : FirstFault) → e ≡ a_fault f → NoWord old f
+
+-- a `(` and a word were taken off
+pub record TookHead (old new : Parse) (w : List ℕ) (at : Position) : Type 0 where
+  pub tokens : tokens_left old ≡ Opening ∷ Word w ∷ tokens_left new
+  pub text : new.text ≡ old.text
+  pub depth : new.left.depth ≡ suc old.left.depth
+  pub within : new.left.depth ≤ nesting_limit
+  pub place : (fault : Fault) → found (lexed old.text) (record { fault = fault; left = suc (length (tokens_left new)) }) ≡ record { fault = fault; at = place_of at }
+
+-- how a form began
+abbrev pub Starts : Parse → Parse → FormStart → Type 0
+Starts old new (start.Word w at) = TookWord old new w at
+Starts old new (start.Head w at) = TookHead old new w at
+
+abbrev pub IsHead : Parse → Parse → FormStart → Type 0
+IsHead old new (start.Word w at) = ⊥
+IsHead old new (start.Head w at) = TookWord old new w at
+
+-- where reading stops that wants a word, or a `(` and a word
+abbrev pub StopsAtStart : List Token → Stop → Type 0
+StopsAtStart [] e = e ≡ record { fault = Unended; left = 0 }
+StopsAtStart (Word w ∷ ts) e = ⊥
+StopsAtStart (Opening ∷ ts) e = StopsAtWord ts e
+StopsAtStart (Closing ∷ ts) e = e ≡ record { fault = BadForm; left = length (Closing ∷ ts) }
+StopsAtStart (Quoted n ∷ ts) e = e ≡ record { fault = BadForm; left = length (Quoted n ∷ ts) }
+
+-- a `(` comes only where a list may still open
+abbrev pub OpensWithin : ℕ → List Token → Type 0
+OpensWithin n [] = ⊤
+OpensWithin n (Opening ∷ ts) = 0 < n
+OpensWithin n (Word w ∷ ts) = ⊤
+OpensWithin n (Closing ∷ ts) = ⊤
+OpensWithin n (Quoted x ∷ ts) = ⊤
+
+pub record NoStart (old : Parse) (f : FirstFault) : Type 0 where
+  pub stop : Stop
+  pub stops : StopsAtStart (tokens_left old) stop
+  pub opens : OpensWithin (room old) (tokens_left old)
+  pub place : found (lexed old.text) stop ≡ found_of f
+
+pub record FailsAtStart (old : Parse) (e : ReadError) : Type 0 where
+  pub failed : (f : FirstFault) → e ≡ a_fault f → NoStart old f
+
+-- a `)` was taken off; or none comes, and all is left
+abbrev pub ClosesParse : Parse → Parse → Bool → Type 0
+ClosesParse old new true = (tokens_left old ≡ Closing ∷ tokens_left new) × (new.text ≡ old.text) × (new.left.depth ≡ old.left.depth - 1)
+ClosesParse old new false = (tokens_left old ≡ tokens_left new) × (new.text ≡ old.text) × (new.left.depth ≡ old.left.depth) × BeginNotClosing (tokens_left old)

@@ -1,7 +1,7 @@
-//! Forms of Rich texts, read from tokens (this project's own).
-//! Reading is defined in `rich_text`; `Reads` says what each reader here makes of the tokens that are left.
+//! A Rich text that is read from the left: single tokens, words and numbers, on which the readers of forms stand (this
+//! project's own). Reading is defined in `rich_text`; `Reads` says what a reader here makes of the tokens that are left.
 #![tactic(auto)]
 
 mod parser;
 
-pub use parser::{Parser, ReadError};
+pub use parser::{FormStart, Parser, ReadError};

@@ -1,11 +1,14 @@
 ghost use Rattle.std.specs.Prelude.{codes, ◌≡◌, ◌<◌, ◌≤◌, ◌↔◌, IfOk, IsTrue, MatchResult};
 ghost use Rattle.rich_text.specs.Forms.{binder_form, memory_form, qualifier_form};
-ghost use Rattle.rich_text.specs.Grammars.{a_form, done};
+ghost use Rattle.rich_text.specs.Grammars.{a_form, a_number, done};
 ghost use Rattle.rich_text.specs.Layout.{open_behind};
 ghost use Rattle.rich_text.specs.Places.{the_start};
-ghost use Rattle.rw_parser.specs.Reads.{Ended, FailsAtWord, Reads, Took, TookWord, a_part, behind_head, the_fields};
+ghost use Rattle.rw_parser.specs.Reads.{ClosesParse, Ended, FailsAtStart, FailsAtWord, IsHead, Reads, Starts, Took, TookWord, a_part, behind_head, the_fields};
+ghost use Rattle.rich_text.specs.Numbers.{Index};
+ghost use Rattle.rw_numbers.specs.NumberWords.{modulus_of, range_of};
 ghost use Rattle.rw_tokens.specs.Streams.{token_of};
 
+use rw_numbers::{NumberWord, Range, number};
 use rw_tokens::{FirstFault, Position, Spelling, Symbol, TextFault, TextToken, Tokens};
 use rw_types::{Binder, Mem, Qual};
 use std::alloc::{AllocError, Global};
@@ -72,6 +75,49 @@ impl<'a> Parser<'a> {
         }
     }
 
+    /// Takes the `)` off that comes next. False where another token comes, or none; then the tokens ahead stay.
+    pub fn closes(&mut self) -> bool
+        ensures { ClosesParse self.old self.new result }
+    {
+        self.tokens.closes()
+    }
+
+    /// Takes the first token of a form off: a word, or a `(` and the word behind it.
+    pub fn start(&mut self) -> Result<FormStart<'a>, ReadError>
+        ensures { MatchResult result (Starts self.old self.new) (FailsAtStart self.old) }
+    {
+        let TextToken { symbol, at } = self.next()?;
+        match symbol {
+            Symbol::Word(word) => Ok(FormStart::Word(word, at)),
+            Symbol::Opening => self.head(),
+            _ => Err(bad_form(at)),
+        }
+    }
+
+    /// Takes the word off that stands behind a `(`.
+    fn head(&mut self) -> Result<FormStart<'a>, ReadError>
+        ensures { MatchResult result (IsHead self.old self.new) (FailsAtWord self.old) }
+    {
+        let (word, at) = self.word()?;
+        Ok(FormStart::Head(word, at))
+    }
+
+    /// A number of a range.
+    pub fn number(&mut self, range: Range) -> Result<u64, ReadError>
+        ensures reads { Reads (a_part (a_number (range_of range))) 0 self.old self.new result }
+        ensures below { IfOk result (λ n. n < modulus_of range) }
+    {
+        let (word, at) = self.word()?;
+        match number(range, word.as_slice()) {
+            NumberWord::Within(value) => Ok(value),
+            NumberWord::OutOfRange => Err(ReadError::Fault(FirstFault {
+                fault: TextFault::NumberOut,
+                at,
+            })),
+            NumberWord::NoNumber => Err(bad_form(at)),
+        }
+    }
+
     /// Takes a word off.
     fn word(&mut self) -> Result<(Spelling<'a>, Position), ReadError>
         ensures { MatchResult result (λ p. TookWord self.old self.new p.0 p.1) (FailsAtWord self.old) }
@@ -81,6 +127,14 @@ impl<'a> Parser<'a> {
             Symbol::Word(word) => Ok((word, at)),
             _ => Err(bad_form(at)),
         }
+    }
+
+    /// A number without a sign.
+    pub fn index(&mut self) -> Result<u32, ReadError>
+        ensures { Reads (a_part (a_number Index)) 0 self.old self.new result }
+    {
+        let value = self.number(Range::Index)?;
+        Ok(value as u32)
     }
 
     /// A memory.
@@ -120,6 +174,42 @@ impl<'a> Parser<'a> {
         self.close()?;
         Ok(Binder::Loc(memory))
     }
+
+    /// What stands behind `(type`.
+    pub fn type_binder(&mut self) -> Result<Binder, ReadError>
+        requires { 0 < self.old.left.depth }
+        ensures { Reads (behind_head binder_form (codes "type")) 1 self.old self.new result }
+    {
+        let qualifier = self.qualifier()?;
+        let size = self.index()?;
+        self.close()?;
+        Ok(Binder::Kind(qualifier, size))
+    }
+
+    /// A binder.
+    pub fn binder(&mut self) -> Result<Binder, ReadError>
+        ensures { Reads (a_part (a_form binder_form)) 0 self.old self.new result }
+    {
+        match self.start()? {
+            FormStart::Word(_word, at) => Err(bad_form(at)),
+            FormStart::Head(word, at) => {
+                if is_word(&word, b"loc") {
+                    self.location_binder()
+                } else if is_word(&word, b"type") {
+                    self.type_binder()
+                } else {
+                    Err(bad_form(at))
+                }
+            }
+        }
+    }
+}
+
+/// How a form begins: with a word alone, or with a `(` and a word; this project's own.
+#[derive(Debug, Drop)]
+pub enum FormStart<'a> {
+    Word(Spelling<'a>, Position),
+    Head(Spelling<'a>, Position),
 }
 
 impl From<FirstFault> for ReadError {
