@@ -1,21 +1,21 @@
 -- How what readers gave is put together, and where a fault stays the first: a lemma for each way in which fields follow each other.
-use Rattle.std.proofs.Common.{◌≡◌, ◌∙◌, ℕ, zero, suc, ◌+◌, ◌-◌, ◌<◌, List, [], ◌∷◌, length, refl, sym, ap, subst, add-zero, arith, inl, inr, Result, Ok, Err, Option, None, Some}
-use Rattle.std.specs.Prelude.{⊤, ◌==◌, if◌then◌else◌, Bool, true, false}
+use Rattle.std.proofs.Common.{◌≡◌, ◌∙◌, ℕ, zero, suc, ◌+◌, ◌-◌, List, [], ◌∷◌, length, refl, sym, ap, add-zero, arith, inl, inr, Result, Ok, Err, None, Some}
+use Rattle.std.specs.Prelude.{⊤, ◌==◌, true, false}
 use Rattle.std.proofs.lemmas.Bool.{cases_Bool, cond-true, cond-false, false≢true}
 use Rattle.rich_text.specs.Forms.{Form, Meaning}
-use Rattle.rich_text.specs.Tokens.{Token, Opening, Closing, Word, Quoted, Fault, BadForm, Unended, same_word, nesting_limit}
+use Rattle.rich_text.specs.Tokens.{Token, Opening, Closing, Word, Quoted, BadForm, Unended, same_word, nesting_limit}
 use Rattle.rich_text.specs.Lexing.{lexed}
-use Rattle.rich_text.specs.Grammars.{Part, PartValue, a_form, a_number, Fields, FieldsValue, one, done, Row}
-use Rattle.rich_text.specs.Reading.{Reader, Stop, and_then, ◌>>=◌, give, look_up, headed, has_lists, read_fields, read_form, read_inside, read_part, read_row, word_or, opens, fail_at}
+use Rattle.rich_text.specs.Grammars.{Part, PartValue, a_form, Fields, FieldsValue, one, Row}
+use Rattle.rich_text.specs.Reading.{Reader, Stop, and_then, ◌>>=◌, give, look_up, headed, has_lists, read_fields, read_inside, read_part, word_or, opens, fail_at}
 use Rattle.rich_text.specs.Texts.{found}
 use Rattle.rich_text.specs.FirstVersion.{first_version}
 use Rattle.rw_tokens.specs.declared.symbols.FirstFault.{FirstFault}
 use Rattle.rw_tokens.specs.declared.symbols.Position.{Position}
 use Rattle.rw_tokens.specs.declared.symbols.TextFault.TheVariants as fault
-use Rattle.rw_tokens.specs.Streams.{found_of, place_of}
-use Rattle.rw_parser.specs.declared.parser.ReadError.{ReadError}
-use Rattle.rw_parser.specs.declared.parser.ReadError.TheVariants.{Fault as a_fault, Memory}
-use Rattle.rw_parser.specs.Reads.{Fails, Failed, FailsAtWord, Gave, NoWord, Parse, StopsAtWord, TookWord, a_part, the_fields, behind_head, room, tokens_left}
+use Rattle.rw_tokens.specs.Streams.{found_of}
+use Rattle.rw_parser.specs.declared.errors.ReadError.{ReadError}
+use Rattle.rw_parser.specs.declared.errors.ReadError.TheVariants.{Fault as a_fault}
+use Rattle.rw_parser.specs.Reads.{Fails, FailsAtWord, Gave, Parse, StopsAtWord, TookWord, a_part, the_fields, behind_head, room, tokens_left}
 
 bind_ok : {A B : Type 0} (r : Reader A) (next : A → Reader B) (ts behind : List Token) (a : A) (all : Result (B × List Token) Stop) → r ts ≡ Ok (a, behind) → next a behind ≡ all → (r >>= next) ts ≡ all
 bind_ok r next ts behind a all e h = ap (λ x. and_then x next) e ∙ h

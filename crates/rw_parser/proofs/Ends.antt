@@ -1,16 +1,16 @@
 -- Tokens that are the last of others: where the first of them stands.
-use Rattle.std.proofs.Common.{◌≡◌, ◌∙◌, ℕ, zero, suc, ◌+◌, ◌-◌, Bool, true, false, List, [], ◌∷◌, ◌++◌, length, refl, sym, ap, subst, append_assoc, length-append, add-zero, arith, Result, Ok, Err}
-use Rattle.std.specs.Prelude.{MatchResult, ◌==◌, if◌then◌else◌}
-use Rattle.std.proofs.lemmas.Bool.{cond-true, cond-false, ne_eqb}
+use Rattle.std.proofs.Common.{◌≡◌, ◌∙◌, ℕ, suc, ◌+◌, ◌-◌, Bool, true, false, List, [], ◌∷◌, ◌++◌, length, refl, sym, ap, subst, append_assoc, length-append, arith, Result, Ok, Err}
+use Rattle.std.specs.Prelude.{MatchResult, ◌==◌}
+use Rattle.std.proofs.lemmas.Bool.{cond-false, ne_eqb}
 use Rattle.rich_text.specs.Tokens.{Closing, Token, Fault}
 use Rattle.rich_text.specs.Places.{Place}
-use Rattle.rich_text.specs.Lexing.{Lexed, before, stop, lexed}
+use Rattle.rich_text.specs.Lexing.{Lexed, before, lexed}
 use Rattle.rich_text.specs.Texts.{Found, found, place_of}
 use Rattle.rw_tokens.specs.declared.symbols.FirstFault.{FirstFault}
 use Rattle.rw_tokens.specs.declared.symbols.TextToken.{TextToken}
 use Rattle.rw_tokens.specs.Streams.{Closes, Left, Gives, ahead, fault_of, token_of}
 use Rattle.rw_tokens.specs.Streams.{place_of as position}
-use Rattle.rw_parser.specs.Reads.{Ended, IsEnd, Parse, Took, tokens_left}
+use Rattle.rw_parser.specs.Reads.{Ended, IsEnd, Parse, Took}
 
 pub end_self : (l : Lexed) → IsEnd l l
 end_self l = record { front = []; fronts = []; tokens = refl; places = refl; same = refl; ending = refl; at = refl }

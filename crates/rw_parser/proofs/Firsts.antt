@@ -1,14 +1,12 @@
 -- What the first token tells of a reader: a word, a `)`, or another.
-use Rattle.std.proofs.Common.{◌≡◌, ◌∙◌, ℕ, suc, ◌+◌, ◌-◌, ◌<◌, Bool, true, false, List, [], ◌∷◌, length, refl, sym, ap, subst, arith, Result, Ok, Err}
-use Rattle.std.specs.Prelude.{⊤, MatchResult, IsTrue, ◌↔◌}
+use Rattle.std.proofs.Common.{◌≡◌, ◌∙◌, ℕ, suc, ◌-◌, ◌<◌, Bool, false, List, ◌∷◌, length, refl, sym, ap, subst, arith, Result, Err}
+use Rattle.std.specs.Prelude.{MatchResult, IsTrue, ◌↔◌}
 use Rattle.std.specs.Result.{IsErrAnd}
 use Rattle.std.proofs.lemmas.Result.{err_from_is_err_and}
 use Rattle.std.proofs.lemmas.Bool.{false≢true}
-use Rattle.rich_text.specs.Tokens.{Token, Opening, Closing, Word, Quoted, Fault, BadForm, Unended}
-use Rattle.rich_text.specs.Lexing.{lexed}
+use Rattle.rich_text.specs.Tokens.{Token, Closing, BadForm, Unended}
 use Rattle.rich_text.specs.Grammars.{done}
-use Rattle.rich_text.specs.Reading.{Reader, Stop, read_close, read_fields}
-use Rattle.rich_text.specs.Texts.{found}
+use Rattle.rich_text.specs.Reading.{read_close}
 use Rattle.rw_tokens.specs.declared.symbols.FirstFault.{FirstFault}
 use Rattle.rw_tokens.specs.declared.symbols.Position.{Position}
 use Rattle.rw_tokens.specs.declared.symbols.Symbol.{Symbol}
@@ -17,10 +15,10 @@ use Rattle.rw_tokens.specs.declared.symbols.TextFault.TheVariants as fault
 use Rattle.rw_tokens.specs.declared.symbols.TextToken.{TextToken}
 use Rattle.rw_tokens.specs.declared.symbols.Spelling.{Spelling as Spelled}
 use Rattle.rich_text.specs.Layout.{open_behind}
-use Rattle.rw_tokens.specs.Streams.{found_of, place_of, token_of}
-use Rattle.rw_parser.specs.declared.parser.ReadError.{ReadError}
-use Rattle.rw_parser.specs.declared.parser.ReadError.TheVariants.{Fault as a_fault, Memory}
-use Rattle.rw_parser.specs.Reads.{Ended, Fails, Failed, FailsAtWord, Gave, NoWord, Parse, Reads, StopsAtWord, Took, TookWord, Wanted, WantedValue, the_fields, tokens_left}
+use Rattle.rw_tokens.specs.Streams.{found_of, token_of}
+use Rattle.rw_parser.specs.declared.errors.ReadError.{ReadError}
+use Rattle.rw_parser.specs.declared.errors.ReadError.TheVariants.{Fault as a_fault}
+use Rattle.rw_parser.specs.Reads.{Ended, Fails, FailsAtWord, Gave, Parse, Reads, StopsAtWord, Took, TookWord, Wanted, WantedValue, the_fields, tokens_left}
 
 same_fault : (a b : FirstFault) → a_fault a ≡ a_fault b → a ≡ b
 same_fault a b e = cc

@@ -1,4 +1,6 @@
 pub mod Composing
 pub mod Ends
 pub mod Firsts
+pub mod Looping
+pub mod Plain
 pub mod Starts

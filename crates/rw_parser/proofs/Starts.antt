@@ -1,16 +1,16 @@
 -- How forms and numbers begin: where the first tokens are none that can begin one, and what stands behind a head.
-use Rattle.std.proofs.Common.{◌≡◌, ◌∙◌, ℕ, zero, suc, ◌+◌, ◌-◌, ◌<◌, ◌≤◌, Bool, true, false, List, [], ◌∷◌, length, refl, sym, ap, subst, add-zero, arith, Result, Ok, Err, Option, None, Some}
-use Rattle.std.specs.Prelude.{⊤, MatchResult}
+use Rattle.std.proofs.Common.{◌≡◌, ◌∙◌, ℕ, zero, suc, ◌-◌, ◌<◌, ◌≤◌, true, List, [], ◌∷◌, length, refl, sym, ap, subst, arith, Result, Ok, Err, None}
+use Rattle.std.specs.Prelude.{MatchResult}
 use Rattle.std.specs.Result.{IsErrAnd}
 use Rattle.std.proofs.lemmas.Result.{err_from_is_err_and}
 use Rattle.rich_text.specs.Forms.{Form, Meaning}
-use Rattle.rich_text.specs.Tokens.{Token, Opening, Closing, Word, Quoted, Fault, BadForm, NumberOut, Unended, nesting_limit}
+use Rattle.rich_text.specs.Tokens.{Token, Opening, Closing, Word, Quoted, BadForm, NumberOut, Unended, nesting_limit}
 use Rattle.rich_text.specs.Lexing.{lexed}
 use Rattle.rich_text.specs.Layout.{open_behind}
-use Rattle.rich_text.specs.Numbers.{NumberRange, Number, number_of, OutOfRange, NoNumber}
-use Rattle.rich_text.specs.Grammars.{Part, a_form, a_number, Row, Shape}
-use Rattle.rich_text.specs.Reading.{Reader, Stop, fail_at, has_lists, headed, look_up, number_or, opens, read_inside, read_number, read_part, row_or}
-use Rattle.rich_text.specs.Texts.{Found, found}
+use Rattle.rich_text.specs.Numbers.{NumberRange, number_of, OutOfRange, NoNumber}
+use Rattle.rich_text.specs.Grammars.{a_form, a_number}
+use Rattle.rich_text.specs.Reading.{Stop, has_lists, headed, look_up, number_or, opens, read_inside, read_number, read_part, row_or}
+use Rattle.rich_text.specs.Texts.{found}
 use Rattle.rich_text.specs.FirstVersion.{first_version}
 use Rattle.rw_tokens.specs.declared.symbols.FirstFault.{FirstFault}
 use Rattle.rw_tokens.specs.declared.symbols.Position.{Position}
@@ -18,12 +18,12 @@ use Rattle.rw_tokens.specs.declared.symbols.Symbol.{Symbol}
 use Rattle.rw_tokens.specs.declared.symbols.Symbol.TheVariants as symbol
 use Rattle.rw_tokens.specs.declared.symbols.TextFault.TheVariants as fault
 use Rattle.rw_tokens.specs.declared.symbols.TextToken.{TextToken}
-use Rattle.rw_tokens.specs.Streams.{found_of, place_of, token_of}
+use Rattle.rw_tokens.specs.Streams.{found_of, token_of}
 use Rattle.rw_parser.specs.declared.parser.FormStart.{FormStart}
 use Rattle.rw_parser.specs.declared.parser.FormStart.TheVariants as start
-use Rattle.rw_parser.specs.declared.parser.ReadError.{ReadError}
-use Rattle.rw_parser.specs.declared.parser.ReadError.TheVariants.{Fault as a_fault, Memory}
-use Rattle.rw_parser.specs.Reads.{Ended, Fails, Failed, FailsAtStart, FailsAtWord, Gave, IsHead, NoStart, NoWord, Parse, Reads, Starts, OpensWithin, StopsAtStart, StopsAtWord, Took, TookHead, TookWord, a_part, behind_head, reader_of, room, tokens_left}
+use Rattle.rw_parser.specs.declared.errors.ReadError.{ReadError}
+use Rattle.rw_parser.specs.declared.errors.ReadError.TheVariants.{Fault as a_fault}
+use Rattle.rw_parser.specs.Reads.{Ended, Fails, FailsAtStart, FailsAtWord, Gave, IsHead, Parse, Reads, Starts, OpensWithin, StopsAtStart, StopsAtWord, Took, TookHead, TookWord, a_part, behind_head, reader_of, room, tokens_left}
 
 same_fault : (a b : FirstFault) → a_fault a ≡ a_fault b → a ≡ b
 same_fault a b e = cc

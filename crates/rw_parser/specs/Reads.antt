@@ -1,12 +1,12 @@
 -- What reading a form makes of the tokens that are left, against the definition of reading (this project's own).
-use Rattle.std.specs.Prelude.{⊤, ◌≤◌, false, ◌≡◌, ◌≢◌, ℕ, suc, ◌+◌, ◌-◌, ◌<◌, List, [], ◌∷◌, ◌++◌, length, Option, None, Some, Result, Ok, Err, Bool, true}
+use Rattle.std.specs.Prelude.{⊤, ◌≤◌, false, ◌≡◌, ℕ, suc, ◌+◌, ◌-◌, ◌<◌, List, [], ◌∷◌, ◌++◌, length, Result, Ok, Err, Bool, true}
 use Rattle.rich_text.specs.Forms.{Form, Meaning}
 use Rattle.rich_text.specs.Tokens.{Token, Opening, Closing, Word, Quoted, Fault, BadForm, Unended, nesting_limit}
 use Rattle.rich_text.specs.Places.{Place}
-use Rattle.rich_text.specs.Lexing.{Lexed, lexed, before}
-use Rattle.rich_text.specs.Grammars.{Part, PartValue, a_form, a_number, Fields, FieldsValue}
-use Rattle.rich_text.specs.Reading.{Reader, Stop, has_lists, headed, look_up, read_fields, read_inside, read_part}
-use Rattle.rich_text.specs.Texts.{Found, found}
+use Rattle.rich_text.specs.Lexing.{Lexed, lexed}
+use Rattle.rich_text.specs.Grammars.{Part, PartValue, Fields, FieldsValue}
+use Rattle.rich_text.specs.Reading.{Reader, Stop, headed, look_up, read_fields, read_part}
+use Rattle.rich_text.specs.Texts.{found}
 use Rattle.rich_text.specs.FirstVersion.{first_version}
 use Rattle.rw_tokens.specs.declared.symbols.FirstFault.{FirstFault}
 use Rattle.rw_tokens.specs.declared.symbols.Position.{Position}
@@ -14,8 +14,8 @@ use Rattle.rw_tokens.specs.declared.symbols.TextToken.{TextToken}
 use Rattle.rw_tokens.specs.Streams.{BeginNotClosing, Left, ahead, found_of, place_of, token_of}
 use Rattle.rw_parser.specs.declared.parser.FormStart.{FormStart}
 use Rattle.rw_parser.specs.declared.parser.FormStart.TheVariants as start
-use Rattle.rw_parser.specs.declared.parser.ReadError.{ReadError}
-use Rattle.rw_parser.specs.declared.parser.ReadError.TheVariants.{Fault as a_fault, Memory}
+use Rattle.rw_parser.specs.declared.errors.ReadError.{ReadError}
+use Rattle.rw_parser.specs.declared.errors.ReadError.TheVariants.{Fault as a_fault}
 
 -- a text, and what is left of it
 pub record Parse : Type 0 where
@@ -160,3 +160,26 @@ pub record FailsAtStart (old : Parse) (e : ReadError) : Type 0 where
 abbrev pub ClosesParse : Parse → Parse → Bool → Type 0
 ClosesParse old new true = (tokens_left old ≡ Closing ∷ tokens_left new) × (new.text ≡ old.text) × (new.left.depth ≡ old.left.depth - 1)
 ClosesParse old new false = (tokens_left old ≡ tokens_left new) × (new.text ≡ old.text) × (new.left.depth ≡ old.left.depth) × BeginNotClosing (tokens_left old)
+
+-- a `(` was taken off
+pub record Opened (old new : Parse) : Type 0 where
+  pub tokens : tokens_left old ≡ Opening ∷ tokens_left new
+  pub text : new.text ≡ old.text
+  pub depth : new.left.depth ≡ suc old.left.depth
+  pub within : new.left.depth ≤ nesting_limit
+
+-- where reading stops that wants a `(`
+abbrev pub StopsAtOpening : List Token → Stop → Type 0
+StopsAtOpening [] e = e ≡ record { fault = Unended; left = 0 }
+StopsAtOpening (Opening ∷ ts) e = ⊥
+StopsAtOpening (Closing ∷ ts) e = e ≡ record { fault = BadForm; left = length (Closing ∷ ts) }
+StopsAtOpening (Word w ∷ ts) e = e ≡ record { fault = BadForm; left = length (Word w ∷ ts) }
+StopsAtOpening (Quoted n ∷ ts) e = e ≡ record { fault = BadForm; left = length (Quoted n ∷ ts) }
+
+pub record NoOpening (old : Parse) (f : FirstFault) : Type 0 where
+  pub stop : Stop
+  pub stops : StopsAtOpening (tokens_left old) stop
+  pub place : found (lexed old.text) stop ≡ found_of f
+
+pub record FailsAtOpening (old : Parse) (e : ReadError) : Type 0 where
+  pub failed : (f : FirstFault) → e ≡ a_fault f → NoOpening old f

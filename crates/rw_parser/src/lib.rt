@@ -2,6 +2,10 @@
 //! project's own). Reading is defined in `rich_text`; `Reads` says what a reader here makes of the tokens that are left.
 #![tactic(auto)]
 
+mod binders;
+mod errors;
 mod parser;
+mod words;
 
-pub use parser::{FormStart, Parser, ReadError};
+pub use errors::{ReadError, bad_form};
+pub use parser::{FormStart, Parser, is_word};

@@ -1,29 +1,20 @@
-ghost use Rattle.std.specs.Prelude.{codes, ◌≡◌, ◌<◌, ◌≤◌, ◌↔◌, IfOk, IsTrue, MatchResult};
-ghost use Rattle.rich_text.specs.Forms.{binder_form, memory_form, qualifier_form};
-ghost use Rattle.rich_text.specs.Grammars.{a_form, a_number, done};
+ghost use Rattle.std.specs.Prelude.{◌≡◌, ◌<◌, ◌≤◌, ◌↔◌, IfOk, IsTrue, MatchResult};
+ghost use Rattle.rich_text.specs.Grammars.{a_number, done};
 ghost use Rattle.rich_text.specs.Layout.{open_behind};
 ghost use Rattle.rich_text.specs.Places.{the_start};
-ghost use Rattle.rw_parser.specs.Reads.{ClosesParse, Ended, FailsAtStart, FailsAtWord, IsHead, Reads, Starts, Took, TookWord, a_part, behind_head, the_fields};
+ghost use Rattle.rw_parser.specs.Reads.{ClosesParse, Ended, FailsAtOpening, FailsAtStart, FailsAtWord, IsHead, Opened, Reads, Starts, Took, TookWord, a_part, the_fields};
 ghost use Rattle.rich_text.specs.Numbers.{Index};
 ghost use Rattle.rw_numbers.specs.NumberWords.{modulus_of, range_of};
 ghost use Rattle.rw_tokens.specs.Streams.{token_of};
 
+use crate::errors::{ReadError, bad_form};
 use rw_numbers::{NumberWord, Range, number};
 use rw_tokens::{FirstFault, Position, Spelling, Symbol, TextFault, TextToken, Tokens};
-use rw_types::{Binder, Mem, Qual};
-use std::alloc::{AllocError, Global};
+use std::alloc::Global;
 use std::marker::Model;
 
-/// Why a text is not read; this project's own.
-#[derive(Debug, Drop)]
-pub enum ReadError {
-    /// The text's first fault.
-    Fault(FirstFault),
-    /// Memory is wanting.
-    Memory,
-}
-
-/// A text of which forms are read from the left. Contracts see the text and what is left of it.
+/// A text of which forms are read from the left. Contracts see the text and what is left of it; this project's own.
+#[derive(Drop)]
 pub struct Parser<'a> {
     alloc: Global,
     text: &'a [u8],
@@ -54,6 +45,11 @@ impl<'a> Parser<'a> {
         }
     }
 
+    /// The allocator of what is read.
+    pub fn alloc(&self) -> Global {
+        self.alloc
+    }
+
     /// Takes the next token off. An error is what ends the tokens.
     fn next(&mut self) -> Result<TextToken<'a>, FirstFault>
         ensures took { MatchResult result (Took self.old self.new) (Ended self.old) }
@@ -61,6 +57,17 @@ impl<'a> Parser<'a> {
         ensures within { self.new.left.depth ≤ 200 }
     {
         self.tokens.next()
+    }
+
+    /// Takes a `(` off.
+    pub fn open(&mut self) -> Result<(), ReadError>
+        ensures { MatchResult result (λ _. Opened self.old self.new) (FailsAtOpening self.old) }
+    {
+        let TextToken { symbol, at } = self.next()?;
+        match symbol {
+            Symbol::Opening => Ok(()),
+            _ => Err(bad_form(at)),
+        }
     }
 
     /// Takes a `)` off.
@@ -119,7 +126,7 @@ impl<'a> Parser<'a> {
     }
 
     /// Takes a word off.
-    fn word(&mut self) -> Result<(Spelling<'a>, Position), ReadError>
+    pub fn word(&mut self) -> Result<(Spelling<'a>, Position), ReadError>
         ensures { MatchResult result (λ p. TookWord self.old self.new p.0 p.1) (FailsAtWord self.old) }
     {
         let TextToken { symbol, at } = self.next()?;
@@ -136,73 +143,6 @@ impl<'a> Parser<'a> {
         let value = self.number(Range::Index)?;
         Ok(value as u32)
     }
-
-    /// A memory.
-    pub fn memory(&mut self) -> Result<Mem, ReadError>
-        ensures { Reads (a_part (a_form memory_form)) 0 self.old self.new result }
-    {
-        let (word, at) = self.word()?;
-        if is_word(&word, b"L") {
-            Ok(Mem::L)
-        } else if is_word(&word, b"U") {
-            Ok(Mem::U)
-        } else {
-            Err(bad_form(at))
-        }
-    }
-
-    /// A qualifier.
-    pub fn qualifier(&mut self) -> Result<Qual, ReadError>
-        ensures { Reads (a_part (a_form qualifier_form)) 0 self.old self.new result }
-    {
-        let (word, at) = self.word()?;
-        if is_word(&word, b"unr") {
-            Ok(Qual::Unr)
-        } else if is_word(&word, b"lin") {
-            Ok(Qual::Lin)
-        } else {
-            Err(bad_form(at))
-        }
-    }
-
-    /// What stands behind `(loc`.
-    pub fn location_binder(&mut self) -> Result<Binder, ReadError>
-        requires { 0 < self.old.left.depth }
-        ensures { Reads (behind_head binder_form (codes "loc")) 1 self.old self.new result }
-    {
-        let memory = self.memory()?;
-        self.close()?;
-        Ok(Binder::Loc(memory))
-    }
-
-    /// What stands behind `(type`.
-    pub fn type_binder(&mut self) -> Result<Binder, ReadError>
-        requires { 0 < self.old.left.depth }
-        ensures { Reads (behind_head binder_form (codes "type")) 1 self.old self.new result }
-    {
-        let qualifier = self.qualifier()?;
-        let size = self.index()?;
-        self.close()?;
-        Ok(Binder::Kind(qualifier, size))
-    }
-
-    /// A binder.
-    pub fn binder(&mut self) -> Result<Binder, ReadError>
-        ensures { Reads (a_part (a_form binder_form)) 0 self.old self.new result }
-    {
-        match self.start()? {
-            FormStart::Word(_word, at) => Err(bad_form(at)),
-            FormStart::Head(word, at) => {
-                if is_word(&word, b"loc") {
-                    self.location_binder()
-                } else if is_word(&word, b"type") {
-                    self.type_binder()
-                } else {
-                    Err(bad_form(at))
-                }
-            }
-        }
-    }
 }
 
 /// How a form begins: with a word alone, or with a `(` and a word; this project's own.
@@ -212,28 +152,8 @@ pub enum FormStart<'a> {
     Head(Spelling<'a>, Position),
 }
 
-impl From<FirstFault> for ReadError {
-    ghost use Rattle.std.specs.Prelude.{◌≡◌};
-    ghost use Rattle.rw_parser.specs.declared.parser.ReadError.TheVariants.{Fault};
-
-    ghost from_gives = { λ f e. e ≡ Fault f };
-
-    fn from(fault: FirstFault) -> ReadError {
-        ReadError::Fault(fault)
-    }
-}
-
-fn bad_form(at: Position) -> ReadError
-    ensures { result ≡ ReadError.Fault (record { fault = TextFault.BadForm; at = at }) }
-{
-    ReadError::Fault(FirstFault {
-        fault: TextFault::BadForm,
-        at,
-    })
-}
-
 /// Whether a word is this one.
-fn is_word(word: &Spelling<'_>, text: &[u8]) -> bool
+pub fn is_word(word: &Spelling<'_>, text: &[u8]) -> bool
     ensures { IsTrue result ↔ (word.now ≡ text.now) }
 {
     word.as_slice() == text

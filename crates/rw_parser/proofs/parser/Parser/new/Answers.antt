@@ -1,4 +1,4 @@
-use Rattle.std.proofs.Common.{sym, ap, subst}
+use Rattle.std.proofs.Common.{sym, subst}
 use Rattle.rich_text.specs.Lexing.{lexed}
 use Rattle.rw_tokens.specs.Streams.{Left, ahead}
 use Rattle.rw_parser.specs.Reads.{IsEnd}
