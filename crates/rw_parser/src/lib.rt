@@ -4,6 +4,7 @@
 
 mod binders;
 mod errors;
+mod exports;
 mod parser;
 mod words;
 

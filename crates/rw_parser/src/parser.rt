@@ -1,5 +1,5 @@
 ghost use Rattle.std.specs.Prelude.{◌≡◌, ◌<◌, ◌≤◌, ◌↔◌, IfOk, IsTrue, MatchResult};
-ghost use Rattle.rich_text.specs.Grammars.{a_number, done};
+ghost use Rattle.rich_text.specs.Grammars.{a_name, a_number, done};
 ghost use Rattle.rich_text.specs.Layout.{open_behind};
 ghost use Rattle.rich_text.specs.Places.{the_start};
 ghost use Rattle.rw_parser.specs.Reads.{ClosesParse, Ended, FailsAtOpening, FailsAtStart, FailsAtWord, IsHead, Opened, Reads, Starts, Took, TookWord, a_part, the_fields};
@@ -10,6 +10,7 @@ ghost use Rattle.rw_tokens.specs.Streams.{token_of};
 use crate::errors::{ReadError, bad_form};
 use rw_numbers::{NumberWord, Range, number};
 use rw_tokens::{FirstFault, Position, Spelling, Symbol, TextFault, TextToken, Tokens};
+use rw_types::{List, Name};
 use std::alloc::Global;
 use std::marker::Model;
 
@@ -134,6 +135,21 @@ impl<'a> Parser<'a> {
             Symbol::Word(word) => Ok((word, at)),
             _ => Err(bad_form(at)),
         }
+    }
+
+    /// A name in quotes.
+    pub fn name(&mut self) -> Result<Name, ReadError>
+        ensures { Reads (a_part a_name) 0 self.old self.new result }
+    {
+        let TextToken { symbol, at } = self.next()?;
+        let Symbol::Quoted(quoted) = symbol else {
+            return Err(bad_form(at));
+        };
+        let bytes = List::from_slice(self.alloc, quoted.as_slice())?;
+        let Some(name) = Name::new(bytes) else {
+            unreachable!();
+        };
+        Ok(name)
     }
 
     /// A number without a sign.
