@@ -97,13 +97,17 @@ module _ (C : Context) where
   pub loop_met : (w : WInstr) (t : Option ValTy) (xs : List WInstr) (ls : Labels) (n most : ℕ) → op.Loop t xs ≡ operation_in (out-WInstr w) → most ≡ (list_met xs (None ∷ ls) n).most → met_block t n n most ≡ met_of C w ls n
   loop_met w t xs ls n most e em = ap (met_block t n n) em ∙ sym (by_layer w (WInstr-F.Loop t xs) ls n (loop_in (out-WInstr w) t xs e))
 
-  pub if_met : (w : WInstr) (t : Option ValTy) (xs : List WInstr) (ls : Labels) (n most : ℕ) → op.If t xs ≡ operation_in (out-WInstr w) → most ≡ (list_met xs (t ∷ ls) (n - 1)).most → met_block t (n - 1) n most ≡ met_of C w ls n
-  if_met w t xs ls n most e em = ap (met_block t (n - 1) n) em ∙ sym (by_layer w (WInstr-F.If t xs) ls n (if_in (out-WInstr w) t xs e))
+  pub if_met : (w : WInstr) (t : Option ValTy) (xs : List WInstr) (ls : Labels) (n below most : ℕ) → op.If t xs ≡ operation_in (out-WInstr w) → below ≡ n - 1 → most ≡ (list_met xs (t ∷ ls) below).most → met_block t below n most ≡ met_of C w ls n
+  if_met w t xs ls n below most e eb em =
+      ap (met_block t below n) em
+      ∙ ap (λ (k : ℕ). met_block t k n (list_met xs (t ∷ ls) k).most) eb
+      ∙ sym (by_layer w (WInstr-F.If t xs) ls n (if_in (out-WInstr w) t xs e))
 
-  pub if_else_met : (w : WInstr) (t : Option ValTy) (xs ys : List WInstr) (ls : Labels) (n first second : ℕ) → op.IfElse t xs ys ≡ operation_in (out-WInstr w) → first ≡ (list_met xs (t ∷ ls) (n - 1)).most → second ≡ (list_met ys (t ∷ ls) (n - 1)).most → met_block t (n - 1) n (max first second) ≡ met_of C w ls n
-  if_else_met w t xs ys ls n first second e ef es =
-      ap (λ (k : ℕ). met_block t (n - 1) n (max k second)) ef
-      ∙ ap (λ (k : ℕ). met_block t (n - 1) n (max (list_met xs (t ∷ ls) (n - 1)).most k)) es
+  pub if_else_met : (w : WInstr) (t : Option ValTy) (xs ys : List WInstr) (ls ls' : Labels) (n below first second : ℕ) → op.IfElse t xs ys ≡ operation_in (out-WInstr w) → below ≡ n - 1 → first ≡ (list_met xs (t ∷ ls) below).most → ls' ≡ ls → second ≡ (list_met ys (t ∷ ls') below).most → met_block t below n (max first second) ≡ met_of C w ls n
+  if_else_met w t xs ys ls ls' n below first second e eb ef el es =
+      ap (λ (k : ℕ). met_block t below n (max k second)) ef
+      ∙ ap (λ (k : ℕ). met_block t below n (max (list_met xs (t ∷ ls) below).most k)) (es ∙ ap (λ (l : Labels). (list_met ys (t ∷ l) below).most) el)
+      ∙ ap (λ (k : ℕ). met_block t k n (max (list_met xs (t ∷ ls) k).most (list_met ys (t ∷ ls) k).most)) eb
       ∙ sym (by_layer w (WInstr-F.IfElse t xs ys) ls n (if_else_in (out-WInstr w) t xs ys e))
 
   by_change : (s : Result Signature WRule) (n : ℕ) → met_change (change_of s) n ≡ met_plain s n

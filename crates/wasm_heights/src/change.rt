@@ -96,7 +96,8 @@ pub(crate) fn change_in(c: &Context, labels: &Labels, operation: OperationRef<'_
 {
     match operation {
         OperationRef::Unreachable | OperationRef::Return => None,
-        OperationRef::Br(_) | OperationRef::BrTable(_, _) => None,
+        OperationRef::Br(_) => None,
+        OperationRef::BrTable(_, _) => None,
         OperationRef::Block(_, _) | OperationRef::Loop(_, _) => None,
         OperationRef::If(_, _) | OperationRef::IfElse(_, _, _) => None,
         OperationRef::Nop => when(true, 0, 0),
