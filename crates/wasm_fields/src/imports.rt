@@ -1,6 +1,5 @@
 //! Imports.
-ghost use Rattle.std.specs.Prelude.{◌≡◌, ◌+◌, ◌≤◌, length};
-ghost use Rattle.wasm_typing.specs.Contexts.{imported_tables, imported_memories, table_count, memory_count};
+ghost use Rattle.std.specs.Prelude.{◌≡◌};
 ghost use Rattle.wasm_typing.specs.Fields.{import_rule};
 ghost use Rattle.wasm_typing.specs.Modules.{first_fault};
 ghost use Rattle.wasm_fields.specs.Answers.{Tells};
@@ -9,6 +8,7 @@ ghost use Rattle.wasm_fields.specs.Counts.{rule_behind};
 use crate::error::FieldError;
 use crate::limits::{memory_rule, table_rule};
 use wasm_ast::{FuncType, Import, ImportKind};
+use wasm_contexts::{memory_count, table_count};
 use wasm_typing::WRule;
 
 /// The rule that an import breaks, behind so many tables and memories that are imported.
@@ -31,28 +31,6 @@ fn import_rule(
         ImportKind::Table(limits) => table_rule(tables, &limits),
         ImportKind::Memory(limits) => memory_rule(memories, &limits),
         ImportKind::Global(_, _) => None,
-    }
-}
-
-/// How many tables this is.
-fn table_count(what: ImportKind) -> usize
-    ensures count { result ≡ table_count what }
-    ensures few { result ≤ 1 }
-{
-    match what {
-        ImportKind::Table(_) => 1,
-        _ => 0,
-    }
-}
-
-/// How many memories this is.
-fn memory_count(what: ImportKind) -> usize
-    ensures count { result ≡ memory_count what }
-    ensures few { result ≤ 1 }
-{
-    match what {
-        ImportKind::Memory(_) => 1,
-        _ => 0,
     }
 }
 

@@ -1,7 +1,8 @@
 use Rattle.std.proofs.Common.{◌∙◌, ◌<◌, length, arith}
 use Rattle.wasm_typing.specs.Fields.{import_rule}
 use Rattle.wasm_fields.proofs.Firsts.{fault_at, fault_behind, none_left}
-use Rattle.wasm_fields.proofs.Counted.{rule_counted, tables_more, memories_more}
+use Rattle.wasm_fields.proofs.Counted.{rule_counted}
+use Rattle.wasm_contexts.proofs.Counted.{tables_more, memories_more}
 use Rattle.wasm_fields.proofs.imports.check_imports.Goals as goal
 
 pub returns-in-Some : goal.returns-in-Some
