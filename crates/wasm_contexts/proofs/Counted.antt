@@ -1,8 +1,10 @@
 -- How counts of imported tables and memories rise.
-use Rattle.std.proofs.Common.{◌≡◌, ◌∙◌, ℕ, ◌+◌, ◌<◌, List, [], ◌∷◌, ◌++◌, length, take, get_or, sym, ap, arith}
+use Rattle.std.proofs.Common.{◌≡◌, ◌∙◌, ℕ, ◌+◌, ◌<◌, List, [], ◌∷◌, ◌++◌, length, take, get_or, refl, sym, ap, length-append, arith}
 use Rattle.std.proofs.lemmas.List.{take_more}
 use Rattle.wasm_ast.specs.declared.modules.Import.{Import}
-use Rattle.wasm_typing.specs.Contexts.{imported_tables, imported_memories, table_count, memory_count}
+use Rattle.wasm_ast.specs.declared.types.FuncType.{FuncType}
+use Rattle.wasm_typing.specs.Contexts.{function_type, imported_functions, imported_tables, imported_memories, table_count, memory_count}
+use Rattle.wasm_contexts.proofs.Pushes.{one_put}
 
 tables_end : (es : List Import) (e : Import) → imported_tables (es ++ e ∷ []) ≡ imported_tables es + table_count e.what
 tables_end [] e = omega arith
@@ -20,3 +22,9 @@ tables_more xs i x lt e en ek = let whole = ap imported_tables (front xs i x lt 
 
 pub memories_more : (xs : List Import) (i : ℕ) (x : Import) {n k : ℕ} → i < length xs → x ≡ get_or xs i x → n ≡ imported_memories (take i xs) → k ≡ memory_count x.what → n + k ≡ imported_memories (take (i + 1) xs)
 memories_more xs i x lt e en ek = let whole = ap imported_memories (front xs i x lt e) ∙ memories_end (take i xs) x in omega (arith, whole)
+
+pub functions_more : (types : List FuncType) (xs : List Import) (i : ℕ) (x : Import) {n k : ℕ} → i < length xs → x ≡ get_or xs i x → n ≡ length (imported_functions types (take i xs)) → k ≡ length (function_type types x.what) → n + k ≡ length (imported_functions types (take (i + 1) xs))
+functions_more types xs i x {n} {k} lt e en ek =
+    let put : imported_functions types (take i xs) ++ function_type types x.what ≡ imported_functions types (take (i + 1) xs) = one_put (λ (y : Import). function_type types y.what) [] (imported_functions types (take i xs)) _ xs i x x lt e refl refl in
+    let joined = length-append (imported_functions types (take i xs)) (function_type types x.what) in
+    omega (arith, ap length put, joined, en, ek)

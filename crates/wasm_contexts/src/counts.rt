@@ -1,9 +1,10 @@
 //! How many tables and memories there are.
 ghost use Rattle.std.specs.Prelude.{◌≡◌, ◌+◌, ◌≤◌, ◌<◌, ◌^◌, length, IfOk};
-ghost use Rattle.wasm_typing.specs.Contexts.{imported_memories, imported_tables, memory_count, table_count};
+ghost use Rattle.wasm_typing.specs.Contexts.{function_type, imported_memories, imported_tables, memory_count, table_count};
+ghost use Rattle.wasm_typing.specs.Modules.{function_imports};
 
 use std::alloc::AllocError;
-use wasm_ast::{Import, ImportKind};
+use wasm_ast::{FuncType, Import, ImportKind, WModule};
 
 /// How many tables this is.
 pub fn table_count(what: ImportKind) -> usize
@@ -45,6 +46,31 @@ pub(crate) fn imported_memories(imports: &[Import]) -> usize
     let mut count = 0;
     for import in imports {
         count += memory_count(import.what);
+    }
+    count
+}
+
+/// How many functions this is, where its type is there.
+fn function_count(types: &[FuncType], what: ImportKind) -> usize
+    ensures count { result ≡ length (function_type types.now what) }
+    ensures few { result ≤ 1 }
+{
+    match what {
+        ImportKind::Func(n) if (n as usize) < types.len() => 1,
+        _ => 0,
+    }
+}
+
+/// How many functions are imported.
+pub fn function_imports(m: &WModule) -> usize
+    ensures count { result ≡ function_imports m.now }
+    ensures bound { result < 2 ^ 32 }
+{
+    let types = m.types.as_slice();
+    let imports = m.imports.as_slice();
+    let mut count = 0;
+    for import in imports {
+        count += function_count(types, import.what);
     }
     count
 }

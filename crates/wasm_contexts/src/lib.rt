@@ -8,6 +8,6 @@ mod globals;
 mod locals;
 mod whole;
 
-pub use counts::{memory_count, table_count};
+pub use counts::{function_imports, memory_count, table_count};
 pub use locals::locals_of;
 pub use whole::module_context;

@@ -1,13 +1,11 @@
-// A library with one function.
+//! Validation of WebAssembly 1.0 modules, integer profile (WebAssembly Core Specification 1.0, chapter 3): a decoded module is
+//! valid, or its first violation is told. Definitions: `IsValid` and `FirstViolation` of `wasm_typing`, whose law
+//! `a_module_is_valid_or_violated` says that a module is one or the other, and `HasHeight` of `wasm_module_checking`.
 #![tactic(auto)]
 
-ghost use Rattle.std.specs.Prelude.{◌≡◌};
-ghost use Rattle.wasm_validate.specs.Echo.{echo_of};
+mod module;
+mod valid;
 
-// The `ensures` clause is the contract: what `echo` returns is `echo_of` of its argument, a definition
-// in `specs/Echo.antt`, which a caller's clause can cite too.
-pub fn echo(x: usize) -> usize
-    ensures { result ≡ echo_of x }
-{
-    x
-}
+pub use module::validate;
+pub use valid::Valid;
+pub use wasm_module_checking::ValidateError;
