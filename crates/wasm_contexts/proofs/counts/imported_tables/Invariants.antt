@@ -1,0 +1,9 @@
+use Rattle.std.proofs.Common.{◌≡◌, ◌≤◌, take}
+use Rattle.wasm_typing.specs.Contexts.{imported_tables}
+use Rattle.wasm_contexts.proofs.counts.imported_tables.Given as goal
+
+abbrev pub invariant-loop-import : goal.invariant-loop-import
+invariant-loop-import l = record {
+  counted : l.count ≡ imported_tables (take l.import-index l.imports);
+  few : l.count ≤ l.import-index;
+}

@@ -1,0 +1,22 @@
+use Rattle.std.proofs.Common.{◌∙◌, ◌+◌, ◌<◌, ℕ, None, length, get_or, refl, sym, ap, arith}
+use Rattle.wasm_ast.specs.declared.types.Limits.{Limits}
+use Rattle.wasm_typing.specs.Fields.{memory_rule}
+use Rattle.wasm_fields.proofs.Firsts.{memory_behind, fault_at, fault_behind, none_left, length_front}
+use Rattle.wasm_fields.proofs.limits.check_memories.Goals as goal
+
+pub returns-in-Some : goal.returns-in-Some
+returns-in-Some c =
+    let none : Limits = record { min = 0; max = None } in
+    let x : Limits = get_or c.args.memories.now c.loop-at.at none in
+    let front = ap (λ (n : ℕ). memory_rule (c.args.imported + n) x) (length_front c.args.memories.now c.loop-at.at c.loop-at-test.true) in
+    c.loop-at.invariant ∙ fault_at (memory_behind c.args.imported) c.args.memories.now c.loop-at.at none x c.loop-at-test.true refl (front ∙ sym c.memory_rule.ensures ∙ c.in-Some.is)
+
+pub loop-at-preserved : goal.loop-at-preserved
+loop-at-preserved c =
+    let none : Limits = record { min = 0; max = None } in
+    let x : Limits = get_or c.args.memories.now c.loop-at.at none in
+    let front = ap (λ (n : ℕ). memory_rule (c.args.imported + n) x) (length_front c.args.memories.now c.loop-at.at c.loop-at-test.true) in
+    c.loop-at.invariant ∙ fault_behind (memory_behind c.args.imported) c.args.memories.now c.loop-at.at none x c.loop-at-test.true refl (front ∙ sym c.memory_rule.ensures ∙ c.in_default.is)
+
+pub returns : goal.returns
+returns c = c.loop-at.invariant ∙ none_left (memory_behind c.args.imported) c.args.memories.now c.loop-at.at (λ (h : c.loop-at.at < length c.args.memories.now). omega arith)

@@ -1,0 +1,82 @@
+//! Constant expressions, and globals.
+ghost use Rattle.std.specs.Prelude.{◌≡◌, ◌<◌, length, None, Some};
+ghost use Rattle.wasm_ast.specs.declared.instructions.WInstr.{out-WInstr};
+ghost use Rattle.wasm_typing.specs.Signatures.{same_type};
+ghost use Rattle.wasm_typing.specs.Fields.{breaks_unless, constant_index, constant_form, constant_type, global_rule};
+ghost use Rattle.wasm_typing.specs.Modules.{first_alone};
+ghost use Rattle.wasm_typing.specs.declared.rule.WRule.TheVariants.{EndOperands};
+ghost use Rattle.wasm_fields.specs.Answers.{Tells};
+
+use crate::error::FieldError;
+use wasm_ast::{OperationRef, ValTy, WGlobal, WInstr};
+use wasm_typing::{GlobalType, WRule};
+
+/// `GlobalIndex` where a constant expression reads a global that is not there.
+pub fn constant_index(globals: &[GlobalType], init: &WInstr) -> Option<WRule>
+    ensures { result ≡ constant_index globals.now (out-WInstr init.now) }
+{
+    match init.operation() {
+        OperationRef::GlobalGet(n) if n as usize >= globals.len() => Some(WRule::GlobalIndex),
+        _ => None,
+    }
+}
+
+/// `ConstExpr` where it is no constant, and reads no global that is never set.
+pub fn constant_form(globals: &[GlobalType], init: &WInstr) -> Option<WRule>
+    ensures { result ≡ constant_form globals.now (out-WInstr init.now) }
+{
+    match init.operation() {
+        OperationRef::Const32(_) | OperationRef::Const64(_) => None,
+        OperationRef::GlobalGet(n) => match globals.get(n as usize) {
+            Some(g) if g.mutable => Some(WRule::ConstExpr),
+            _ => None,
+        },
+        _ => Some(WRule::ConstExpr),
+    }
+}
+
+fn type_rule(found: ValTy, wanted: ValTy) -> Option<WRule>
+    ensures { result ≡ breaks_unless (same_type found wanted) EndOperands }
+{
+    if found == wanted {
+        None
+    } else {
+        Some(WRule::EndOperands)
+    }
+}
+
+/// `EndOperands` where its value has another type.
+pub fn constant_type(globals: &[GlobalType], t: ValTy, init: &WInstr) -> Option<WRule>
+    ensures { result ≡ constant_type globals.now t (out-WInstr init.now) }
+{
+    match init.operation() {
+        OperationRef::Const32(_) => type_rule(ValTy::I32, t),
+        OperationRef::Const64(_) => type_rule(ValTy::I64, t),
+        OperationRef::GlobalGet(n) => match globals.get(n as usize) {
+            Some(g) => type_rule(g.ty, t),
+            None => None,
+        },
+        _ => None,
+    }
+}
+
+/// The rule that a global breaks, whose initial value may read these globals.
+fn global_rule(globals: &[GlobalType], g: &WGlobal) -> Option<WRule>
+    ensures { result ≡ global_rule globals.now g.now }
+{
+    constant_index(globals, &g.init)
+        .or(constant_form(globals, &g.init))
+        .or(constant_type(globals, g.ty, &g.init))
+}
+
+/// The globals, whose initial values may read these globals.
+pub fn check_globals(imported: &[GlobalType], globals: &[WGlobal]) -> Result<(), FieldError>
+    ensures { Tells (first_alone (global_rule imported.now) globals.now) result }
+{
+    for (at, g) in globals.iter().enumerate() {
+        if let Some(rule) = global_rule(imported, g) {
+            return Err(FieldError::Invalid { at, rule });
+        }
+    }
+    Ok(())
+}
