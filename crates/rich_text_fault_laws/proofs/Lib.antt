@@ -1,0 +1,5 @@
+pub mod Encodings
+pub mod Lexers
+pub mod Order
+pub mod Readers
+pub mod Whole
