@@ -2,4 +2,5 @@ pub mod Encodings
 pub mod Lexers
 pub mod Order
 pub mod Readers
+pub mod Versions
 pub mod Whole

@@ -1,38 +1,21 @@
 -- Texts whose tokens are alike up to a place have the same first fault, where it stands at that place.
-use Rattle.std.proofs.Common.{◌≡◌, ◌∙◌, ℕ, zero, suc, ◌+◌, ◌-◌, ◌<◌, ◌≤◌, true, List, [], ◌∷◌, ◌++◌, length, refl, sym, ap, subst, inl, inr, arith, length-append, Option, Some, None, Result, Ok, Err}
+use Rattle.std.proofs.Common.{◌≡◌, ◌∙◌, ℕ, zero, suc, ◌+◌, ◌-◌, ◌<◌, ◌≤◌, true, List, [], ◌∷◌, ◌++◌, length, refl, sym, ap, subst, inl, inr, arith, length-append, Result, Ok, Err}
 use Rattle.std.specs.Prelude.{◌==◌, ◌⊎◌}
 use Rattle.std.proofs.lemmas.Bool.{cond-true, cond-false, eq-eqb, ne_eqb}
 use Rattle.rw_types.specs.declared.modules.Module.{Module}
 use Rattle.rich_text.specs.Forms.{Form, qualifier_form, memory_form, privilege_form, type_form, types_form, pretype_form, heap_form, slot_form, function_type_form, binder_form, binders_form, local_form, local_types_form, locals_form, instruction_form, argument_form, arm_form, then_form, else_form, function_form, export_form, import_form, global_form, mutability_form, version_form, module_form}
-use Rattle.rich_text.specs.Tokens.{Token, Opening, Closing, Word, Quoted, Fault, BadUtf8, BadToken, TooDeep, NumberOut, BadForm, Unended, nesting_limit}
+use Rattle.rich_text.specs.Tokens.{Token, Fault, BadUtf8, BadToken, TooDeep, NumberOut, BadForm, Unended, nesting_limit}
 use Rattle.rich_text.specs.Places.{Place, the_start}
 use Rattle.rich_text.specs.Lexing.{Lexed, InBlank, lexed}
-use Rattle.rich_text.specs.Grammars.{a_form, Grammar, Has}
-use Rattle.rich_text.specs.Reading.{Stop, Reader, look_up, read_part}
+use Rattle.rich_text.specs.Grammars.{a_form}
+use Rattle.rich_text.specs.Reading.{Stop, Reader, read_part}
 use Rattle.rich_text.specs.FirstVersion.{first_version}
-use Rattle.rich_text.specs.Texts.{Found, versions, or_first, grammar_by, third, place_of, found, nothing_behind, whole, reading_tokens, if_encoded}
-use Rattle.rich_text_laws.proofs.Looking.{from_look}
+use Rattle.rich_text.specs.Texts.{Found, third, place_of, found, nothing_behind, whole, reading_tokens, if_encoded}
 use Rattle.rich_text_fault_laws.specs.Laws.{NothingBehindTokenCounts}
 use Rattle.rich_text_fault_laws.proofs.Order.{Apart}
 use Rattle.rich_text_fault_laws.proofs.Lexers.{behind, NoneAt, Clear, Alike, alike}
+use Rattle.rich_text_fault_laws.proofs.Versions.{by_token}
 use Rattle.rich_text_fault_laws.proofs.Readers.{Read, Leaves, Shared, value, fault, beyond, Steady, IsListed, rows_listed, plain_listed, steady}
-
--- ---- the grammar of every text is that of version 1
-
-known : (G : Grammar) (w : List ℕ) → Has versions w G → G ≡ first_version
-known G w (inl h) = sym h.1
-known G w (inr h) = absurd h
-
-chosen : (w : List ℕ) (o : Option Grammar) → look_up w versions ≡ o → or_first o ≡ first_version
-chosen w None e = refl
-chosen w (Some G) e = known G w (from_look versions w G e)
-
-by_token : (t : Option Token) → grammar_by t ≡ first_version
-by_token None = refl
-by_token (Some Opening) = refl
-by_token (Some Closing) = refl
-by_token (Some (Word w)) = chosen w (look_up w versions) refl
-by_token (Some (Quoted n)) = refl
 
 abbrev read_module : Reader Module
 read_module = read_part first_version nesting_limit (a_form module_form)
