@@ -7,7 +7,7 @@ use Rattle.std.proofs.lemmas.Bool.{cond-true, cond-false, lt-ltb, eqb-true, and_
 use Rattle.rich_text.specs.Tokens.{Opening, Closing, Word, Quoted, TooDeep, BadToken, Unended, is_word_byte, is_blank, is_name_byte, is_name, nesting_limit}
 use Rattle.rich_text.specs.Places.{Place, place_behind, place_after}
 use Rattle.rich_text.specs.Lexing.{Lexed, Inside, InBlank, InComment, InWord, InName, stop, before, begun, lexed_from}
-use Rattle.rich_text_token_laws.specs.Pieces.{Piece, Blank, Comment, Lone, free_of, Writes, IsLongest, MayStand, open_past, told}
+use Rattle.rich_text_token_laws.specs.Pieces.{Piece, Blank, Comment, Lone, free_of, Writes, IsLongest, MayStand, open_past, with_piece}
 use Rattle.rich_text_token_laws.proofs.Begun.{other, no_blank, free_one, free_more, name_free, StartApart}
 
 pub turned : (b : ℕ) (passed bs : List ℕ) → reverse (b ∷ passed) ++ bs ≡ reverse passed ++ b ∷ bs
@@ -104,7 +104,7 @@ line_ends c (b ∷ back) h l = absurd (none (l Comment (b ∷ []) back refl (by_
     by_byte false e = (c ++ b ∷ [], free_on c h e, inl refl)
 
 abbrev Steps : Piece → List ℕ → List ℕ → Place → ℕ → Type 0
-Steps p front back at depth = lexed_from (front ++ back) InBlank at depth ≡ told p at (lexed_from back InBlank (place_after front at) (open_past p depth))
+Steps p front back at depth = lexed_from (front ++ back) InBlank at depth ≡ with_piece p at (lexed_from back InBlank (place_after front at) (open_past p depth))
 
 quoted_step : (n back : List ℕ) (at : Place) (depth : ℕ) → is_name n ≡ true → Steps (Lone (Quoted n)) (34 ∷ (n ++ 34 ∷ [])) back at depth
 quoted_step n back at depth h =

@@ -6,7 +6,7 @@ use Rattle.std.proofs.lemmas.Bool.{false≢true, cond-false, eqb-true, eq-eqb, l
 use Rattle.rich_text.specs.Tokens.{Opening, Closing, Word, Quoted, Fault, BadUtf8, BadToken, TooDeep, NumberOut, BadForm, Unended, is_word_byte, is_blank, is_name, nesting_limit}
 use Rattle.rich_text.specs.Places.{Place, the_start, place_behind, place_after}
 use Rattle.rich_text.specs.Lexing.{Lexed, InBlank, InComment, stop, before, lexed_from}
-use Rattle.rich_text_token_laws.specs.Pieces.{Piece, Blank, Comment, Lone, free_of, Writes, IsLongest, MayStand, Ends, open_past, told, Divides}
+use Rattle.rich_text_token_laws.specs.Pieces.{Piece, Blank, Comment, Lone, free_of, Writes, IsLongest, MayStand, EndsTokens, open_past, with_piece, IsDivided}
 use Rattle.rich_text_token_laws.specs.Laws.{LexedAreTokens, NoOtherTokens}
 use Rattle.rich_text_token_laws.proofs.Begun.{by_test, never, head_one, tail_one, other, no_blank, begins, at_front, same_parts, never_free, Parted, parted, spanned}
 use Rattle.rich_text_token_laws.proofs.Longest.{name_parts, single, word_longest, quoted_longest, line_longest, last_longest}
@@ -14,11 +14,11 @@ use Rattle.rich_text_token_laws.proofs.Steps.{step, name_run, name_open}
 
 -- what a text begins with: a piece, or what ends the tokens
 data First (depth : ℕ) (text : List ℕ) : Type 0 where
-  ends : (fault : Fault) → Ends depth text fault → ((at : Place) → lexed_from text InBlank at depth ≡ stop fault at) → First depth text
+  ends : (fault : Fault) → EndsTokens depth text fault → ((at : Place) → lexed_from text InBlank at depth ≡ stop fault at) → First depth text
   piece : (p : Piece) (b : ℕ) (fs back : List ℕ) → text ≡ b ∷ (fs ++ back) → Writes p (b ∷ fs) → IsLongest (b ∷ fs) back → MayStand depth p → First depth text
 
 -- bytes that begin nothing
-nothing : (b : ℕ) (bs : List ℕ) → ((p : Piece) (fs back : List ℕ) → bs ≡ fs ++ back → Writes p (b ∷ fs) → ⊥) → Ends 0 (b ∷ bs) BadToken
+nothing : (b : ℕ) (bs : List ℕ) → ((p : Piece) (fs back : List ℕ) → bs ≡ fs ++ back → Writes p (b ∷ fs) → ⊥) → EndsTokens 0 (b ∷ bs) BadToken
 nothing b bs h = (λ e. not_empty e, λ p front back e w. let f = at_front p b bs front back e w in h p f.0 back f.2 f.3)
   where
     not_empty : b ∷ bs ≡ [] → ⊥
@@ -146,7 +146,7 @@ not_deep (Lone (Quoted n)) depth b fs e g m = absurd (false≢true (eq-eqb 40 34
 abbrev Stops : ℕ → List ℕ → Fault → Type 0
 Stops depth text fault = (at : Place) → lexed_from text InBlank at depth ≡ stop fault at
 
-stops_bad : (depth : ℕ) (text : List ℕ) → Ends depth text BadToken → First depth text → Stops depth text BadToken
+stops_bad : (depth : ℕ) (text : List ℕ) → EndsTokens depth text BadToken → First depth text → Stops depth text BadToken
 stops_bad depth text e (piece p b fs back is w l m) = absurd (e.1 p (b ∷ fs) back is w)
 stops_bad depth text e (ends BadToken g s) = s
 stops_bad depth text e (ends Unended g s) = absurd (e.0 g)
@@ -155,7 +155,7 @@ stops_bad depth text e (ends BadUtf8 g s) = absurd g
 stops_bad depth text e (ends NumberOut g s) = absurd g
 stops_bad depth text e (ends BadForm g s) = absurd g
 
-stops : (depth : ℕ) (text : List ℕ) (fault : Fault) → Ends depth text fault → Stops depth text fault
+stops : (depth : ℕ) (text : List ℕ) (fault : Fault) → EndsTokens depth text fault → Stops depth text fault
 stops depth text Unended e at = ap (λ bs. lexed_from bs InBlank at depth) e
 stops depth text BadToken e at = stops_bad depth text e (first depth text) at
 stops depth text TooDeep e at =
@@ -167,17 +167,17 @@ stops depth text BadForm e at = absurd e
 
 -- ---- the whole
 
-only : (ps : List (Piece × List ℕ)) (text : List ℕ) (at : Place) (depth : ℕ) (l : Lexed) → Divides ps text at depth l → l ≡ lexed_from text InBlank at depth
+only : (ps : List (Piece × List ℕ)) (text : List ℕ) (at : Place) (depth : ℕ) (l : Lexed) → IsDivided ps text at depth l → l ≡ lexed_from text InBlank at depth
 only [] text at depth l d = d.2 ∙ sym (stops depth text d.0 d.1 at)
 only (p ∷ ps) text at depth l (back, rest, is, w, long, may, same, more) =
-    same ∙ ap (told p.0 at) (only ps back (place_after p.1 at) (open_past p.0 depth) rest more)
+    same ∙ ap (with_piece p.0 at) (only ps back (place_after p.1 at) (open_past p.0 depth) rest more)
     ∙ sym (ap (λ bs. lexed_from bs InBlank at depth) is ∙ step p.0 p.1 back at depth w long may)
 
 pub no_other_tokens : NoOtherTokens
 no_other_tokens bytes l d = only d.0 bytes the_start 0 l d.1
 
 abbrev Division : List ℕ → Place → ℕ → Type 0
-Division text at depth = (ps : List (Piece × List ℕ)) × Divides ps text at depth (lexed_from text InBlank at depth)
+Division text at depth = (ps : List (Piece × List ℕ)) × IsDivided ps text at depth (lexed_from text InBlank at depth)
 
 divided : (fuel : ℕ) (text : List ℕ) (at : Place) (depth : ℕ) → length text < fuel → Division text at depth
 divided zero text at depth h = absurd (omega (arith, h))

@@ -44,13 +44,13 @@ MayStand depth Blank = ⊤
 MayStand depth Comment = ⊤
 
 -- what ends the tokens, before the rest of a text
-abbrev pub Ends : ℕ → List ℕ → Fault → Type 0
-Ends depth rest Unended = rest ≡ []
-Ends depth rest BadToken = (rest ≡ [] → ⊥) × BeginsNothing rest
-Ends depth rest TooDeep = (back : List ℕ) × (rest ≡ 40 ∷ back) × (nesting_limit ≤ depth)
-Ends depth rest BadUtf8 = ⊥
-Ends depth rest NumberOut = ⊥
-Ends depth rest BadForm = ⊥
+abbrev pub EndsTokens : ℕ → List ℕ → Fault → Type 0
+EndsTokens depth rest Unended = rest ≡ []
+EndsTokens depth rest BadToken = (rest ≡ [] → ⊥) × BeginsNothing rest
+EndsTokens depth rest TooDeep = (back : List ℕ) × (rest ≡ 40 ∷ back) × (nesting_limit ≤ depth)
+EndsTokens depth rest BadUtf8 = ⊥
+EndsTokens depth rest NumberOut = ⊥
+EndsTokens depth rest BadForm = ⊥
 
 -- how many lists are open behind a piece
 abbrev pub open_past : Piece → ℕ → ℕ
@@ -59,19 +59,19 @@ open_past Comment depth = depth
 open_past (Lone t) depth = open_behind t depth
 
 -- a piece before the tokens behind it
-abbrev pub told : Piece → Place → Lexed → Lexed
-told Blank at l = l
-told Comment at l = l
-told (Lone t) at l = before t at l
+abbrev pub with_piece : Piece → Place → Lexed → Lexed
+with_piece Blank at l = l
+with_piece Comment at l = l
+with_piece (Lone t) at l = before t at l
 
 -- a text from a place on, with so many lists open, divided into its longest pieces; their tokens with their places, and what
 -- ends them
-abbrev pub Divides : List (Piece × List ℕ) → List ℕ → Place → ℕ → Lexed → Type 0
-Divides [] text at depth l = (fault : Fault) × Ends depth text fault × (l ≡ stop fault at)
-Divides (p ∷ ps) text at depth l =
+abbrev pub IsDivided : List (Piece × List ℕ) → List ℕ → Place → ℕ → Lexed → Type 0
+IsDivided [] text at depth l = (fault : Fault) × EndsTokens depth text fault × (l ≡ stop fault at)
+IsDivided (p ∷ ps) text at depth l =
     (back : List ℕ) × (rest : Lexed) × (text ≡ p.1 ++ back) × Writes p.0 p.1 × IsLongest p.1 back × MayStand depth p.0
-    × (l ≡ told p.0 at rest) × Divides ps back (place_after p.1 at) (open_past p.0 depth) rest
+    × (l ≡ with_piece p.0 at rest) × IsDivided ps back (place_after p.1 at) (open_past p.0 depth) rest
 
 -- the tokens of a text, and what ends them
 abbrev pub AreTokens : List ℕ → Lexed → Type 0
-AreTokens bytes l = (pieces : List (Piece × List ℕ)) × Divides pieces bytes the_start 0 l
+AreTokens bytes l = (pieces : List (Piece × List ℕ)) × IsDivided pieces bytes the_start 0 l
