@@ -221,10 +221,10 @@ lexed_alike p l m k e h q = by_rest k.rest
         ∙ module_alike p k.shared k.left k.right clear e (sym (ap (λ o. whole o (read_module o.tokens)) k.first) ∙ h) q
 
 pub nothing_behind_token_counts : NothingBehindTokenCounts
-nothing_behind_token_counts front shown back other e h q s a b =
+nothing_behind_token_counts front shown back other e h q s t a b =
     let text = front ++ (shown ++ back) in
     let instead = front ++ (shown ++ other) in
     let tokens : whole (lexed text) (read_module (lexed text).tokens) ≡ Err e = sym (of_version (lexed text)) ∙ sym (ap (λ o. if_encoded o (reading_tokens (lexed text))) a) ∙ h in
     ap (λ o. if_encoded o (reading_tokens (lexed instead))) b
     ∙ of_version (lexed instead)
-    ∙ lexed_alike e.at (lexed text) (lexed instead) (alike e.at back other shown front InBlank the_start 0 q tt s) e tokens refl
+    ∙ lexed_alike e.at (lexed text) (lexed instead) (alike e.at back other shown front InBlank the_start 0 q tt s t) e tokens refl

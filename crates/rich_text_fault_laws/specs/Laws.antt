@@ -6,26 +6,38 @@ use Rattle.rich_text.specs.Texts.{Found}
 use Rattle.rich_text.specs.Utf8.{more_of, ill_formed}
 use Rattle.rich_text_laws.specs.Laws.{HasFirstFault}
 
--- whether a byte passes a test
-abbrev pub has_byte : (ℕ → Bool) → List ℕ → Bool
-has_byte test [] = false
-has_byte test (b ∷ bs) = if test b then true else has_byte test bs
+-- whether bytes continue no word, or no `;` to a comment
+abbrev pub end_word : List ℕ → Bool
+end_word [] = true
+end_word (b ∷ bs) = not (is_word_byte b)
 
--- whether bytes show to its end the token, or what is none, that they begin with: a word ends at the byte behind it, a name at
--- its second quote, and the byte behind a `;` tells whether it begins a comment
-abbrev pub show_whole : List ℕ → Bool
-show_whole [] = false
-show_whole (b ∷ bs) =
-    if is_word_byte b then has_byte (λ c. not (is_word_byte c)) bs
-    else (if b == 34 then has_byte (λ c. c == 34) bs
-    else (if b == 59 then has_byte (λ c. true) bs
+abbrev pub begin_no_comment : List ℕ → Bool
+begin_no_comment [] = true
+begin_no_comment (b ∷ bs) = not (b == 59)
+
+-- whether a word that began ends among bytes, or with them before others
+abbrev pub word_ends : List ℕ → List ℕ → Bool
+word_ends [] behind = end_word behind
+word_ends (b ∷ bs) behind = if is_word_byte b then word_ends bs behind else true
+
+abbrev pub name_ends : List ℕ → Bool
+name_ends [] = false
+name_ends (b ∷ bs) = if b == 34 then true else name_ends bs
+
+-- whether bytes show to its end, before others, the token, or what is none, that they begin with
+abbrev pub show_whole : List ℕ → List ℕ → Bool
+show_whole [] behind = false
+show_whole (b ∷ bs) behind =
+    if is_word_byte b then word_ends bs behind
+    else (if b == 34 then name_ends bs
+    else (if b == 59 then begin_no_comment (bs ++ behind)
     else true))
 
 -- texts that agree up to the end of the token at which a fault stands, and are well encoded, share that fault and its place; so
 -- this is never one that stands at a text's end
 abbrev pub NothingBehindTokenCounts : Type 0
 NothingBehindTokenCounts =
-    (front shown back other : List ℕ) (e : Found) → HasFirstFault (front ++ (shown ++ back)) e → e.at ≡ place_after front the_start → show_whole shown ≡ true
+    (front shown back other : List ℕ) (e : Found) → HasFirstFault (front ++ (shown ++ back)) e → e.at ≡ place_after front the_start → show_whole shown back ≡ true → show_whole shown other ≡ true
     → ill_formed (front ++ (shown ++ back)) ≡ None → ill_formed (front ++ (shown ++ other)) ≡ None → HasFirstFault (front ++ (shown ++ other)) e
 
 abbrev pub bad_encoding : Place → Found

@@ -1,0 +1,4 @@
+pub mod Begun
+pub mod Longest
+pub mod Steps
+pub mod Whole
