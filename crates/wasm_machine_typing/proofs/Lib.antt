@@ -1,0 +1,5 @@
+pub mod Values
+pub mod Lists
+pub mod Memories
+pub mod Going
+pub mod Plain
