@@ -3,3 +3,7 @@ pub mod Lists
 pub mod Memories
 pub mod Going
 pub mod Plain
+pub mod Calls
+pub mod Entering
+pub mod Control
+pub mod Steps

@@ -301,42 +301,42 @@ module _ (C : Context) (e : Environment) (env : IsTypedEnvironment C e) (c : Con
           | Err why ↦ λ _. tt
         ] refl)
 
-    acts : (o : Operation WInstr) → Is o → StaysInList o → Good (act e o (record c.here { rest = rest }) c)
-    acts op.Unreachable q s = absurd s
-    acts op.Nop q s = nop q
-    acts (op.Block t xs) q s = absurd s
-    acts (op.Loop t xs) q s = absurd s
-    acts (op.If t xs) q s = absurd s
-    acts (op.IfElse t xs ys) q s = absurd s
-    acts (op.Br label) q s = absurd s
-    acts (op.BrIf label) q s = absurd s
-    acts (op.BrTable labels default) q s = absurd s
-    acts op.Return q s = absurd s
-    acts (op.Call n) q s = absurd s
-    acts (op.CallIndirect n) q s = absurd s
-    acts op.Drop q s = dropped q
-    acts op.Select q s = selected q
-    acts (op.LocalGet n) q s = local_got n q
-    acts (op.LocalSet n) q s = local_set n q
-    acts (op.LocalTee n) q s = local_teed n q
-    acts (op.GlobalGet n) q s = global_got n q
-    acts (op.GlobalSet n) q s = global_set n q
-    acts (op.Load t access align offset) q s = number_loaded t access align offset q
-    acts (op.Store t log_width align offset) q s = number_stored t log_width align offset q
-    acts op.MemorySize q s = size_told q
-    acts op.MemoryGrow q s = memory_grown q
-    acts (op.Const32 bits) q s = narrow_constant bits q
-    acts (op.Const64 bits) q s = wide_constant bits q
-    acts (op.Eqz t) q s = from_one (op.Eqz t) t I32 (λ v. truth (v == 0)) q refl (λ v _. truth-within (v == 0))
-    acts (op.Compare t operator) q s = compared t operator q
-    acts (op.Unary t operator) q s = from_one (op.Unary t operator) t t (unary operator (width_of t)) q refl (λ v _. stays_within.of_one operator (width_of t) v)
-    acts (op.Binary t operator) q s = combined t operator q
-    acts (op.Convert convert.Wrap) q s = from_one (op.Convert convert.Wrap) I64 I32 (converted convert.Wrap) q refl (stays_within.of_conversion convert.Wrap)
-    acts (op.Convert convert.ExtendS) q s = from_one (op.Convert convert.ExtendS) I32 I64 (converted convert.ExtendS) q refl (stays_within.of_conversion convert.ExtendS)
-    acts (op.Convert convert.ExtendU) q s = from_one (op.Convert convert.ExtendU) I32 I64 (converted convert.ExtendU) q refl (stays_within.of_conversion convert.ExtendU)
+    pub plain_acts : (o : Operation WInstr) → Is o → StaysInList o → Good (act e o (record c.here { rest = rest }) c)
+    plain_acts op.Unreachable q s = absurd s
+    plain_acts op.Nop q s = nop q
+    plain_acts (op.Block t xs) q s = absurd s
+    plain_acts (op.Loop t xs) q s = absurd s
+    plain_acts (op.If t xs) q s = absurd s
+    plain_acts (op.IfElse t xs ys) q s = absurd s
+    plain_acts (op.Br label) q s = absurd s
+    plain_acts (op.BrIf label) q s = absurd s
+    plain_acts (op.BrTable labels default) q s = absurd s
+    plain_acts op.Return q s = absurd s
+    plain_acts (op.Call n) q s = absurd s
+    plain_acts (op.CallIndirect n) q s = absurd s
+    plain_acts op.Drop q s = dropped q
+    plain_acts op.Select q s = selected q
+    plain_acts (op.LocalGet n) q s = local_got n q
+    plain_acts (op.LocalSet n) q s = local_set n q
+    plain_acts (op.LocalTee n) q s = local_teed n q
+    plain_acts (op.GlobalGet n) q s = global_got n q
+    plain_acts (op.GlobalSet n) q s = global_set n q
+    plain_acts (op.Load t access align offset) q s = number_loaded t access align offset q
+    plain_acts (op.Store t log_width align offset) q s = number_stored t log_width align offset q
+    plain_acts op.MemorySize q s = size_told q
+    plain_acts op.MemoryGrow q s = memory_grown q
+    plain_acts (op.Const32 bits) q s = narrow_constant bits q
+    plain_acts (op.Const64 bits) q s = wide_constant bits q
+    plain_acts (op.Eqz t) q s = from_one (op.Eqz t) t I32 (λ v. truth (v == 0)) q refl (λ v _. truth-within (v == 0))
+    plain_acts (op.Compare t operator) q s = compared t operator q
+    plain_acts (op.Unary t operator) q s = from_one (op.Unary t operator) t t (unary operator (width_of t)) q refl (λ v _. stays_within.of_one operator (width_of t) v)
+    plain_acts (op.Binary t operator) q s = combined t operator q
+    plain_acts (op.Convert convert.Wrap) q s = from_one (op.Convert convert.Wrap) I64 I32 (converted convert.Wrap) q refl (stays_within.of_conversion convert.Wrap)
+    plain_acts (op.Convert convert.ExtendS) q s = from_one (op.Convert convert.ExtendS) I32 I64 (converted convert.ExtendS) q refl (stays_within.of_conversion convert.ExtendS)
+    plain_acts (op.Convert convert.ExtendU) q s = from_one (op.Convert convert.ExtendU) I32 I64 (converted convert.ExtendU) q refl (stays_within.of_conversion convert.ExtendU)
 
 pub plain_goes_on : PlainGoesOn
-plain_goes_on C e c i rest env h er s = subst (λ (r : List WInstr). IsTypedTurn C e (step_at e r c)) (sym er) (acts C e env c h i rest er (operation_in (out-WInstr i)) refl s)
+plain_goes_on C e c i rest env h er s = subst (λ (r : List WInstr). IsTypedTurn C e (step_at e r c)) (sym er) (plain_acts C e env c h i rest er (operation_in (out-WInstr i)) refl s)
 
 pub stands_within : StandsWithin
 stands_within C e c h = stands (body C e c h) _ h.call.labels c.here.rest c.here.operands _ h.call.result h.call.runs

@@ -1,16 +1,21 @@
 -- Laws of typed configurations (WebAssembly Core Specification 1.0, appendix A.5, "soundness").
-use Rattle.std.specs.Prelude.{◌≡◌, ◌≤◌, ◌+◌, length, List, ◌∷◌}
+use Rattle.std.specs.Prelude.{◌≡◌, ◌≢◌, ℕ, ◌≤◌, ◌+◌, length, List, ◌∷◌, Some, reverse}
 use Rattle.wasm_ast.specs.declared.instructions.WInstr.{WInstr}
+use Rattle.wasm_ast.specs.declared.types.FuncType.{FuncType}
+use Rattle.wasm_ast.specs.declared.modules.Code.{Code}
 use Rattle.wasm_ast.specs.Operations.{Operation, operation_of}
 use Rattle.wasm_ast.specs.Operations as operation
 use Rattle.wasm_typing.specs.declared.context.Context.{Context}
 use Rattle.wasm_typing.specs.Contexts.{body_context}
 use Rattle.wasm_typing.specs.Heights.{height_of}
-use Rattle.wasm_execution.specs.Configurations.{Config}
-use Rattle.wasm_execution.specs.Environments.{Environment}
+use Rattle.machine_steps.specs.Steps.{Stuck, reached}
+use Rattle.wasm_execution.specs.Configurations.{Here, Bottom, Store, Config}
+use Rattle.wasm_execution.specs.Environments.{Environment, function_at}
+use Rattle.wasm_execution.specs.Calls.{entered}
 use Rattle.wasm_execution.specs.Steps.{step}
+use Rattle.wasm_machine_typing.specs.Values.{AreOf}
 use Rattle.wasm_machine_typing.specs.Lists.{beneath}
-use Rattle.wasm_machine_typing.specs.Configurations.{IsTypedEnvironment, IsTypedConfig, IsTypedTurn}
+use Rattle.wasm_machine_typing.specs.Configurations.{of_code, IsTypedEnvironment, IsTypedStore, AreWaiting, IsTypedConfig, IsTypedTurn}
 
 -- instructions that neither open a list nor leave one, nor call
 abbrev pub StaysInList : {A : Type 0} → Operation A → Type 0
@@ -32,6 +37,22 @@ abbrev pub PlainGoesOn : Type 0
 PlainGoesOn =
     (C : Context) (e : Environment) (c : Config) (i : WInstr) (rest : List WInstr) → IsTypedEnvironment C e → IsTypedConfig C e c → c.here.rest ≡ i ∷ rest
     → StaysInList (operation_of i) → IsTypedTurn C e (step e c)
+
+-- a step of a typed configuration leads to a typed configuration, or the run is over: the ends of lists, branches, calls and returns
+-- too
+abbrev pub EachStepGoesOn : Type 0
+EachStepGoesOn = (C : Context) (e : Environment) (c : Config) → IsTypedEnvironment C e → IsTypedConfig C e c → IsTypedTurn C e (step e c)
+
+-- after no number of steps is a run from a typed configuration stuck
+abbrev pub NeverStuck : Type 0
+NeverStuck = (C : Context) (e : Environment) (c : Config) → IsTypedEnvironment C e → IsTypedConfig C e c → (n : ℕ) → (reached (step e) n c).stand ≢ Stuck
+
+-- the call of a function of the module, with its arguments, over typed calls that wait and a typed store, is typed
+abbrev pub CallsAreTyped : Type 0
+CallsAreTyped =
+    (C : Context) (e : Environment) → IsTypedEnvironment C e → (n : ℕ) (ty : FuncType) (code : Code) (arguments : List ℕ) (callers : List Here) (bottom : Bottom) (s : Store)
+    → function_at e n ≡ Some (of_code ty (Some code)) → AreOf (reverse ty.params) arguments → AreWaiting C e ty.result callers bottom → IsTypedStore C e s
+    → IsTypedConfig C e (entered n code arguments callers bottom s)
 
 -- the operands of the call that runs are within the height of its code
 abbrev pub StandsWithin : Type 0

@@ -1,8 +1,16 @@
-ghost use Rattle.wasm_machine_typing.specs.Laws.{PlainGoesOn, StandsWithin};
+ghost use Rattle.wasm_machine_typing.specs.Laws.{CallsAreTyped, EachStepGoesOn, NeverStuck, PlainGoesOn, StandsWithin};
 
 /// A law: a plain instruction of a typed configuration has a step, to a typed configuration or to a trap, and the operands
 /// that stand are within the height of the code.
 pub fn plain_instructions_go_on()
     ensures step { PlainGoesOn }
     ensures room { StandsWithin }
+{}
+
+/// A law: a call that begins is typed, and each step of a typed configuration leads to a typed one or to an end, so that
+/// no run from one is ever stuck.
+pub fn typed_configurations_go_on()
+    ensures begins { CallsAreTyped }
+    ensures step { EachStepGoesOn }
+    ensures stuck { NeverStuck }
 {}
