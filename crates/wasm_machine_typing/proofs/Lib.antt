@@ -7,3 +7,4 @@ pub mod Calls
 pub mod Entering
 pub mod Control
 pub mod Steps
+pub mod Rows

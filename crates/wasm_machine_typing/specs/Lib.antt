@@ -2,3 +2,4 @@ pub mod Values
 pub mod Lists
 pub mod Configurations
 pub mod Laws
+pub mod Rows

@@ -1,4 +1,5 @@
 ghost use Rattle.wasm_machine_typing.specs.Laws.{CallsAreTyped, EachStepGoesOn, NeverStuck, PlainGoesOn, StandsWithin};
+ghost use Rattle.wasm_machine_typing.specs.Rows.{FirstIsTyped};
 
 /// A law: a plain instruction of a typed configuration has a step, to a typed configuration or to a trap, and the operands
 /// that stand are within the height of the code.
@@ -13,4 +14,9 @@ pub fn typed_configurations_go_on()
     ensures begins { CallsAreTyped }
     ensures step { EachStepGoesOn }
     ensures stuck { NeverStuck }
+{}
+
+/// Row: the first configuration of a module of one function that gives 6 is typed.
+pub fn a_first_configuration_is_typed()
+    ensures { FirstIsTyped }
 {}
