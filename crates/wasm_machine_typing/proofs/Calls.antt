@@ -1,6 +1,6 @@
 -- Calls and returns of a typed configuration.
-use Rattle.std.proofs.Common.{◌≡◌, ◌∙◌, ℕ, zero, suc, ◌+◌, ◌≤◌, Bool, true, false, List, [], ◌∷◌, ◌++◌, map, length, slice_get, reverse, refl, sym, ap, subst, arith}
-use Rattle.std.specs.Prelude.{Option, Some, None, Result, Ok, Err, option_map, option_to_list, nat_lt, replicate, ◌&&◌}
+use Rattle.std.proofs.Common.{◌≡◌, ◌∙◌, ℕ, Bool, true, false, List, [], ◌∷◌, ◌++◌, map, length, slice_get, reverse, refl, sym, ap, subst, arith}
+use Rattle.std.specs.Prelude.{Option, Some, None, Ok, option_map, option_to_list, nat_lt, replicate, ◌&&◌}
 use Rattle.std.proofs.lemmas.List.{length-reverse, reverse-reverse}
 use Rattle.wasm_ast.specs.declared.types.FuncType.{FuncType}
 use Rattle.wasm_ast.specs.declared.types.ValTy.{ValTy}
@@ -12,22 +12,21 @@ use Rattle.wasm_ast.specs.Operations as op
 use Rattle.wasm_typing.specs.declared.rule.WRule.TheVariants.{TypeIndex, FuncIndex, TableIndex}
 use Rattle.wasm_typing.specs.declared.context.Context.{Context}
 use Rattle.wasm_typing.specs.Contexts.{body_context, declared_locals}
-use Rattle.wasm_typing.specs.Signatures.{Slot, The, Same, Gives, Signature, ◌⇒◌, found, needs, signature_of}
+use Rattle.wasm_typing.specs.Signatures.{The, ◌⇒◌, needs}
 use Rattle.wasm_typing.specs.Typing.{fill}
 use Rattle.wasm_typing.specs.Heights.{height_of}
 use Rattle.machine_steps.specs.declared.Trap.TheVariants.{TableBounds, Uninitialised, Signature as OtherSignature}
-use Rattle.machine_steps.specs.Steps.{Turn, Went, Ended, NoStep, with_top}
+use Rattle.machine_steps.specs.Steps.{Turn, Went, with_top}
 use Rattle.wasm_execution.specs.Types.{results_of, is_same_type, takes_and_gives, is_same_value_type, are_same_value_types, is_same_result}
 use Rattle.wasm_execution.specs.Configurations.{Here, Bottom, TheEnd, ThenCall, Store, Config, Event, Print}
-use Rattle.wasm_execution.specs.Environments.{Environment, Function, function_at}
-use Rattle.wasm_execution.specs.Turns.{with_found, with_one, with_none, with_all, first_or_zero, traps}
+use Rattle.wasm_execution.specs.Environments.{Environment, function_at}
+use Rattle.wasm_execution.specs.Turns.{with_found, with_all, first_or_zero, traps}
 use Rattle.wasm_execution.specs.Calls.{declared, entered, ends_with, calls, call, call_direct, call_typed, call_indirect, give, return_now, return_at_end}
 use Rattle.wasm_machine_typing.specs.Values.{AreOf}
 use Rattle.wasm_machine_typing.specs.Lists.{beneath, Runs}
-use Rattle.wasm_machine_typing.specs.Configurations.{of_code, IsTypedCode, IsTypedEnvironment, IsTypedStore, IsTypedCall, IsTypedBottom, AreWaiting, IsTypedConfig, IsTypedTurn}
+use Rattle.wasm_machine_typing.specs.Configurations.{of_code, IsTypedEnvironment, IsTypedStore, IsTypedBottom, AreWaiting, IsTypedConfig, IsTypedTurn}
 use Rattle.wasm_machine_typing.proofs.Values.{as_long, join, turned, declared_zeros, results_long, params_filled, result_filled}
-use Rattle.wasm_machine_typing.proofs.Lists.{Used}
-use Rattle.wasm_machine_typing.proofs.Going.{found_back, needs_back, body, going, on_found, on_one, Use, has, use_of}
+use Rattle.wasm_machine_typing.proofs.Going.{found_back, needs_back, body, going, on_found, has, use_of}
 
 pub and_split : (a b : Bool) → (a && b) ≡ true → (a ≡ true) × (b ≡ true)
 and_split true b q = (refl, q)

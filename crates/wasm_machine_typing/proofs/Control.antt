@@ -1,6 +1,6 @@
 -- Entering and leaving lists, and branches, of a typed configuration.
-use Rattle.std.proofs.Common.{◌≡◌, ◌∙◌, ℕ, zero, suc, ◌+◌, ◌≤◌, Bool, true, false, List, [], ◌∷◌, ◌++◌, map, length, slice_get, refl, sym, ap, subst}
-use Rattle.std.specs.Prelude.{Option, Some, None, Result, Ok, Err, option_map, option_to_list, ◌&&◌}
+use Rattle.std.proofs.Common.{◌≡◌, ◌∙◌, ℕ, zero, suc, ◌+◌, Bool, true, false, List, [], ◌∷◌, ◌++◌, map, length, slice_get, refl, sym, ap, subst}
+use Rattle.std.specs.Prelude.{Option, Some, None, Ok, option_map, option_to_list}
 use Rattle.wasm_ast.specs.declared.types.ValTy.{ValTy}
 use Rattle.wasm_ast.specs.declared.types.ValTy.TheVariants.{I32, I64}
 use Rattle.wasm_ast.specs.declared.instructions.WInstr.{WInstr, out-WInstr}
@@ -8,12 +8,11 @@ use Rattle.wasm_ast.specs.Operations.{Operation, operation_in}
 use Rattle.wasm_ast.specs.Operations as op
 use Rattle.wasm_typing.specs.declared.rule.WRule.TheVariants.{LabelIndex, LabelTypes}
 use Rattle.wasm_typing.specs.declared.context.Context.{Context}
-use Rattle.wasm_typing.specs.Signatures.{Slot, The, Gives, Signature, ◌⇒◌, leaves, operands_of, found, needs, all_of, all_same, same_type, same_result, signature_of}
+use Rattle.wasm_typing.specs.Signatures.{The, Signature, ◌⇒◌, leaves, operands_of, found, needs, all_of, all_same, same_type, same_result}
 use Rattle.wasm_typing.specs.Typing.{Labels, fill, AreTyped, none, more}
-use Rattle.wasm_typing.specs.Heights.{height_of}
-use Rattle.machine_steps.specs.Steps.{Turn, Went, with_top}
+use Rattle.machine_steps.specs.Steps.{Turn, with_top}
 use Rattle.wasm_execution.specs.Types.{results_of}
-use Rattle.wasm_execution.specs.Configurations.{Aim, Past, Back, Level, Here, Config, Event}
+use Rattle.wasm_execution.specs.Configurations.{Aim, Past, Back, Level, Config, Event}
 use Rattle.wasm_execution.specs.Environments.{Environment}
 use Rattle.wasm_execution.specs.Turns as turns
 use Rattle.wasm_execution.specs.Turns.{with_all, goes_on}
@@ -23,8 +22,7 @@ use Rattle.wasm_machine_typing.specs.Values.{AreOf}
 use Rattle.wasm_machine_typing.specs.Lists.{beneath, Runs, Leads, AreOpen}
 use Rattle.wasm_machine_typing.specs.Configurations.{IsTypedEnvironment, IsTypedConfig, IsTypedTurn}
 use Rattle.wasm_machine_typing.proofs.Values.{result_filled}
-use Rattle.wasm_machine_typing.proofs.Lists.{Used, Taken}
-use Rattle.wasm_machine_typing.proofs.Going.{found_back, needs_back, body, room, going, on_one, runs, has, use_of, take_of}
+use Rattle.wasm_machine_typing.proofs.Going.{found_back, needs_back, body, room, runs, has, use_of, take_of}
 use Rattle.wasm_machine_typing.proofs.Calls.{and_split, first_of, top, all, results_taken, returned, returned_at_end}
 use Rattle.wasm_machine_typing.proofs.Entering.{Enters, block_enters, loop_enters, arm_enters, arms_enter}
 

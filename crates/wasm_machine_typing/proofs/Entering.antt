@@ -1,6 +1,6 @@
 -- What is left of a typed list in front of a block, a loop or an if, and of the lists that they nest.
-use Rattle.std.proofs.Common.{zero, suc, ◌≡◌, ◌∙◌, ℕ, ◌+◌, ◌-◌, ◌≤◌, max, List, [], ◌∷◌, ◌++◌, length, refl, sym, ap, subst, arith}
-use Rattle.std.specs.Prelude.{Option, Some, None, Result, Ok, Err, option_to_list}
+use Rattle.std.proofs.Common.{◌≡◌, ◌∙◌, ℕ, ◌+◌, ◌-◌, ◌≤◌, max, List, [], ◌∷◌, ◌++◌, length, refl, sym, ap, subst, arith}
+use Rattle.std.specs.Prelude.{Option, Some, None, Ok, option_to_list}
 use Rattle.std.proofs.lemmas.List.{length-append}
 use Rattle.wasm_ast.specs.declared.types.ValTy.{ValTy}
 use Rattle.wasm_ast.specs.declared.types.ValTy.TheVariants.{I32}
@@ -8,9 +8,8 @@ use Rattle.wasm_ast.specs.declared.instructions.WInstr.{WInstr, out-WInstr}
 use Rattle.wasm_ast.specs.declared.instructions.WInstr.TheOpen.{WInstr-F}
 use Rattle.wasm_ast.specs.Operations.{Operation, operation_in}
 use Rattle.wasm_ast.specs.Operations as op
-use Rattle.wasm_ast.specs.Immediates.{Immediate, Body, Bodies, immediate_of, immediate_by}
-use Rattle.wasm_grammar.specs.ProfileInstructions.{ImmediateFits, InstructionFits, InstructionsFit, plain_fits, nested_fits, two_arms_fit, none_fit}
-use Rattle.wasm_typing.specs.declared.rule.WRule.{WRule}
+use Rattle.wasm_ast.specs.Immediates.{Body, Bodies, immediate_of, immediate_by}
+use Rattle.wasm_grammar.specs.ProfileInstructions.{ImmediateFits, InstructionFits, InstructionsFit, plain_fits, nested_fits, two_arms_fit}
 use Rattle.wasm_typing.specs.declared.context.Context.{Context}
 use Rattle.wasm_typing.specs.Signatures.{Signature, signature_of}
 use Rattle.wasm_typing.specs.Typing.{Labels, IsTyped, AreTyped, plain, block, loop, one_arm, two_arms}
@@ -59,10 +58,11 @@ module _ (C : Context) (ls : Labels) where
   block_parts x t xs before after q (block u ys ey d ea) =
       let f : op.Block u ys ≡ op.Block t xs = sym (ap operation_in ey) ∙ q in
       let eu : u ≡ t = (cc) in
-      let exs : ys ≡ xs = (cc) in
-      (ey ∙ ap (λ (v : Option ValTy). WInstr-F.Block v ys) eu ∙ ap (λ (y : List WInstr). WInstr-F.Block t y) exs,
-       subst (λ (v : Option ValTy). AreTyped C (v ∷ ls) xs [] (option_to_list v)) eu (subst (λ (y : List WInstr). AreTyped C (u ∷ ls) y [] (option_to_list u)) exs d),
-       ea ∙ ap (λ (v : Option ValTy). option_to_list v ++ before) eu)
+      let exs : ys ≡ xs = (cc) in (
+        ey ∙ ap (λ (v : Option ValTy). WInstr-F.Block v ys) eu ∙ ap (λ (y : List WInstr). WInstr-F.Block t y) exs,
+        subst (λ (v : Option ValTy). AreTyped C (v ∷ ls) xs [] (option_to_list v)) eu (subst (λ (y : List WInstr). AreTyped C (u ∷ ls) y [] (option_to_list u)) exs d),
+        ea ∙ ap (λ (v : Option ValTy). option_to_list v ++ before) eu,
+      )
   block_parts x t xs before after q (loop u ys ey d ea) = let f : op.Loop u ys ≡ op.Block t xs = sym (ap operation_in ey) ∙ q in absurd (cc)
   block_parts x t xs before after q (one_arm ys ey d eb) = let f : op.If None ys ≡ op.Block t xs = sym (ap operation_in ey) ∙ q in absurd (cc)
   block_parts x t xs before after q (two_arms u ys zs below ey d g eb ea) = let f : op.IfElse u ys zs ≡ op.Block t xs = sym (ap operation_in ey) ∙ q in absurd (cc)
@@ -74,10 +74,11 @@ module _ (C : Context) (ls : Labels) where
   loop_parts x t xs before after q (loop u ys ey d ea) =
       let f : op.Loop u ys ≡ op.Loop t xs = sym (ap operation_in ey) ∙ q in
       let eu : u ≡ t = (cc) in
-      let exs : ys ≡ xs = (cc) in
-      (ey ∙ ap (λ (v : Option ValTy). WInstr-F.Loop v ys) eu ∙ ap (λ (y : List WInstr). WInstr-F.Loop t y) exs,
-       subst (λ (v : Option ValTy). AreTyped C (None ∷ ls) xs [] (option_to_list v)) eu (subst (λ (y : List WInstr). AreTyped C (None ∷ ls) y [] (option_to_list u)) exs d),
-       ea ∙ ap (λ (v : Option ValTy). option_to_list v ++ before) eu)
+      let exs : ys ≡ xs = (cc) in (
+        ey ∙ ap (λ (v : Option ValTy). WInstr-F.Loop v ys) eu ∙ ap (λ (y : List WInstr). WInstr-F.Loop t y) exs,
+        subst (λ (v : Option ValTy). AreTyped C (None ∷ ls) xs [] (option_to_list v)) eu (subst (λ (y : List WInstr). AreTyped C (None ∷ ls) y [] (option_to_list u)) exs d),
+        ea ∙ ap (λ (v : Option ValTy). option_to_list v ++ before) eu,
+      )
   loop_parts x t xs before after q (one_arm ys ey d eb) = let f : op.If None ys ≡ op.Loop t xs = sym (ap operation_in ey) ∙ q in absurd (cc)
   loop_parts x t xs before after q (two_arms u ys zs below ey d g eb ea) = let f : op.IfElse u ys zs ≡ op.Loop t xs = sym (ap operation_in ey) ∙ q in absurd (cc)
 
@@ -89,9 +90,12 @@ module _ (C : Context) (ls : Labels) where
   arm_parts x t xs before after q (one_arm ys ey d eb) =
       let f : op.If None ys ≡ op.If t xs = sym (ap operation_in ey) ∙ q in
       let eu : None ≡ t = (cc) in
-      let exs : ys ≡ xs = (cc) in
-      (sym eu, ey ∙ ap (λ (v : Option ValTy). WInstr-F.If v ys) eu ∙ ap (λ (y : List WInstr). WInstr-F.If t y) exs,
-       subst (λ (v : Option ValTy). AreTyped C (v ∷ ls) xs [] (option_to_list v)) eu (subst (λ (y : List WInstr). AreTyped C (None ∷ ls) y [] []) exs d), eb)
+      let exs : ys ≡ xs = (cc) in (
+        sym eu,
+        ey ∙ ap (λ (v : Option ValTy). WInstr-F.If v ys) eu ∙ ap (λ (y : List WInstr). WInstr-F.If t y) exs,
+        subst (λ (v : Option ValTy). AreTyped C (v ∷ ls) xs [] (option_to_list v)) eu (subst (λ (y : List WInstr). AreTyped C (None ∷ ls) y [] []) exs d),
+        eb,
+      )
   arm_parts x t xs before after q (two_arms u ys zs below ey d g eb ea) = let f : op.IfElse u ys zs ≡ op.If t xs = sym (ap operation_in ey) ∙ q in absurd (cc)
 
   arms_parts : (x : WInstr-F WInstr) (t : Option ValTy) (xs ys : List WInstr) (before after : List ValTy) → operation_in x ≡ op.IfElse t xs ys → IsTyped C ls x before after
@@ -104,11 +108,14 @@ module _ (C : Context) (ls : Labels) where
       let f : op.IfElse u zs us ≡ op.IfElse t xs ys = sym (ap operation_in ey) ∙ q in
       let eu : u ≡ t = (cc) in
       let ez : zs ≡ xs = (cc) in
-      let es : us ≡ ys = (cc) in
-      (below, ey ∙ ap (λ (v : Option ValTy). WInstr-F.IfElse v zs us) eu ∙ ap (λ (y : List WInstr). WInstr-F.IfElse t y us) ez ∙ ap (λ (y : List WInstr). WInstr-F.IfElse t xs y) es,
-       subst (λ (v : Option ValTy). AreTyped C (v ∷ ls) xs [] (option_to_list v)) eu (subst (λ (y : List WInstr). AreTyped C (u ∷ ls) y [] (option_to_list u)) ez d),
-       subst (λ (v : Option ValTy). AreTyped C (v ∷ ls) ys [] (option_to_list v)) eu (subst (λ (y : List WInstr). AreTyped C (u ∷ ls) y [] (option_to_list u)) es g),
-       eb, ea ∙ ap (λ (v : Option ValTy). option_to_list v ++ below) eu)
+      let es : us ≡ ys = (cc) in (
+        below,
+        ey ∙ ap (λ (v : Option ValTy). WInstr-F.IfElse v zs us) eu ∙ ap (λ (y : List WInstr). WInstr-F.IfElse t y us) ez ∙ ap (λ (y : List WInstr). WInstr-F.IfElse t xs y) es,
+        subst (λ (v : Option ValTy). AreTyped C (v ∷ ls) xs [] (option_to_list v)) eu (subst (λ (y : List WInstr). AreTyped C (u ∷ ls) y [] (option_to_list u)) ez d),
+        subst (λ (v : Option ValTy). AreTyped C (v ∷ ls) ys [] (option_to_list v)) eu (subst (λ (y : List WInstr). AreTyped C (u ∷ ls) y [] (option_to_list u)) es g),
+        eb,
+        ea ∙ ap (λ (v : Option ValTy). option_to_list v ++ below) eu,
+      )
 
   -- what an instruction that opens a list over so many operands meets
   nested_falls : (i : WInstr) (rest : List WInstr) (x : WInstr-F WInstr) (t : Option ValTy) (n under most room : ℕ) → out-WInstr i ≡ x → met_in C (met_of C) x ls n ≡ met_block t under n most → (met_list (met_of C) (i ∷ rest) ls n).most ≤ room
@@ -132,17 +139,17 @@ module _ (C : Context) (ls : Labels) where
         fits = let none : length below + under ≡ 0 + (length below + under) = omega arith in subst (λ (m : ℕ). (met_list (met_of C) xs (label ∷ ls) m).most ≤ room) none first;
       };
       behind = λ given k.
-        let long = as_long (option_to_list t) given k in
-        let one = result_count t in
-        let split = length-append given below in
-        let n : length below + under + count t ≡ length (given ++ below) + under = omega (arith, long, one, split) in
-        record {
-          types = option_to_list t ++ types;
-          values = join (option_to_list t) types given below k values;
-          typed = outer;
-          numbers = others;
-          fits = subst (λ (m : ℕ). (met_list (met_of C) rest ls m).most ≤ room) n second;
-        };
+          let long = as_long (option_to_list t) given k in
+          let one = result_count t in
+          let split = length-append given below in
+          let n : length below + under + count t ≡ length (given ++ below) + under = omega (arith, long, one, split) in
+          record {
+            types = option_to_list t ++ types;
+            values = join (option_to_list t) types given below k values;
+            typed = outer;
+            numbers = others;
+            fits = subst (λ (m : ℕ). (met_list (met_of C) rest ls m).most ≤ room) n second;
+          };
     }
 
     module _ (i : WInstr) (operands : List ℕ) (h : Runs C room ls (i ∷ rest) operands under result) where
@@ -178,11 +185,15 @@ module _ (C : Context) (ls : Labels) where
           let less : n - 1 ≡ length v.1 + under = omega (arith, l) in
           let f = nested_falls i rest (WInstr-F.If t xs) t n (n - 1) (met_list (met_of C) xs (t ∷ ls) (n - 1)).most room b.1 refl h.fits in
           let m = first_fits i rest (i ∷ rest) refl h.numbers in
-          let none : p.0 ≡ option_to_list t ++ p.0 = ap (λ (x : Option ValTy). option_to_list x ++ p.0) (sym b.0) in
-          (v.0, v.1, v.2, b.0,
-           enters t t xs v.1 p.0 v.3 b.2 (body_numbers i t xs m.0 (ap immediate_by q))
-           (subst (λ (ts : List ValTy). AreTyped C ls rest ts (option_to_list result)) none p.2) m.1
-           (subst (λ (k : ℕ). (met_list (met_of C) xs (t ∷ ls) k).most ≤ room) less f.0) (subst (λ (k : ℕ). (met_list (met_of C) rest ls (k + count t)).most ≤ room) less f.1))
+          let none : p.0 ≡ option_to_list t ++ p.0 = ap (λ (x : Option ValTy). option_to_list x ++ p.0) (sym b.0) in (
+            v.0,
+            v.1,
+            v.2,
+            b.0,
+            enters t t xs v.1 p.0 v.3 b.2 (body_numbers i t xs m.0 (ap immediate_by q))
+                (subst (λ (ts : List ValTy). AreTyped C ls rest ts (option_to_list result)) none p.2) m.1
+                (subst (λ (k : ℕ). (met_list (met_of C) xs (t ∷ ls) k).most ≤ room) less f.0) (subst (λ (k : ℕ). (met_list (met_of C) rest ls (k + count t)).most ≤ room) less f.1),
+          )
 
       pub arms_enter : (t : Option ValTy) (xs ys : List WInstr) → operation_in (out-WInstr i) ≡ op.IfElse t xs ys
           → (v : ℕ) × (below : List ℕ) × (operands ≡ v ∷ below) × Enters C room ls t t xs rest below under result × Enters C room ls t t ys rest below under result
@@ -200,7 +211,10 @@ module _ (C : Context) (ls : Labels) where
           let m = first_fits i rest (i ∷ rest) refl h.numbers in
           let k = arms_numbers i t xs ys m.0 (ap immediate_by q) in
           let typed = subst (λ (ts : List ValTy). AreTyped C ls rest ts (option_to_list result)) b.5 p.2 in
-          let behind = subst (λ (j : ℕ). (met_list (met_of C) rest ls (j + count t)).most ≤ room) less f.1 in
-          (v.0, v.1, v.2,
-           enters t t xs v.1 b.0 v.3 b.2 k.0 typed m.1 (subst (λ (j : ℕ). (met_list (met_of C) xs (t ∷ ls) j).most ≤ room) less (omega (arith, g))) behind,
-           enters t t ys v.1 b.0 v.3 b.3 k.1 typed m.1 (subst (λ (j : ℕ). (met_list (met_of C) ys (t ∷ ls) j).most ≤ room) less (omega (arith, g))) behind)
+          let behind = subst (λ (j : ℕ). (met_list (met_of C) rest ls (j + count t)).most ≤ room) less f.1 in (
+            v.0,
+            v.1,
+            v.2,
+            enters t t xs v.1 b.0 v.3 b.2 k.0 typed m.1 (subst (λ (j : ℕ). (met_list (met_of C) xs (t ∷ ls) j).most ≤ room) less (omega (arith, g))) behind,
+            enters t t ys v.1 b.0 v.3 b.3 k.1 typed m.1 (subst (λ (j : ℕ). (met_list (met_of C) ys (t ∷ ls) j).most ≤ room) less (omega (arith, g))) behind,
+          )

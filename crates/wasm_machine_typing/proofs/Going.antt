@@ -1,17 +1,17 @@
 -- How a typed configuration goes on: with other operands, locals, globals or bytes, in the list that runs.
-use Rattle.std.proofs.Common.{◌≡◌, ◌∙◌, ℕ, ◌+◌, ◌≤◌, Bool, true, false, List, [], ◌∷◌, ◌++◌, map, length, refl, sym, ap, subst, arith}
+use Rattle.std.proofs.Common.{◌≡◌, ◌∙◌, ℕ, Bool, true, false, List, [], ◌∷◌, ◌++◌, map, refl, sym, subst}
 use Rattle.std.specs.Prelude.{Option, Some, None, Result, Ok, Err, option_to_list, if◌then◌else◌}
 use Rattle.wasm_ast.specs.declared.types.ValTy.{ValTy}
 use Rattle.wasm_ast.specs.declared.instructions.WInstr.{WInstr, out-WInstr}
 use Rattle.wasm_ast.specs.declared.instructions.WInstr.TheOpen.{WInstr-F}
 use Rattle.wasm_ast.specs.Operations.{Operation, operation_in}
 use Rattle.wasm_ast.specs.Operations as op
-use Rattle.wasm_ast.specs.Immediates.{Immediate, IsPlain, Body, Bodies, immediate_of, immediate_by}
+use Rattle.wasm_ast.specs.Immediates.{Immediate, IsPlain, immediate_of}
 use Rattle.wasm_grammar.specs.ProfileInstructions.{ImmediateFits, InstructionFits, plain_fits, nested_fits, two_arms_fit}
 use Rattle.wasm_typing.specs.declared.rule.WRule.{WRule}
 use Rattle.wasm_typing.specs.declared.context.Context.{Context}
 use Rattle.wasm_typing.specs.Contexts.{body_context}
-use Rattle.wasm_typing.specs.Signatures.{Slot, Left, Gives, Signature, found, needs, signature_of, signature_in}
+use Rattle.wasm_typing.specs.Signatures.{Slot, Gives, Signature, found, needs, signature_of, signature_in}
 use Rattle.wasm_typing.specs.Typing.{Labels, fill, IsTyped, plain, block, loop, one_arm, two_arms}
 use Rattle.wasm_typing.specs.Heights.{height_of}
 use Rattle.machine_steps.specs.Steps.{Turn}

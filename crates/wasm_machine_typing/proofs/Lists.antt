@@ -1,17 +1,16 @@
 -- What is left of a typed list behind its first instruction, by the instruction's signature or by the lists that it nests.
-use Rattle.std.proofs.Common.{zero, suc, ◌≡◌, ◌∙◌, ℕ, ◌+◌, ◌-◌, ◌≤◌, max, List, [], ◌∷◌, ◌++◌, map, length, refl, sym, ap, subst, arith}
+use Rattle.std.proofs.Common.{◌≡◌, ◌∙◌, ℕ, ◌+◌, ◌-◌, ◌≤◌, max, List, [], ◌∷◌, ◌++◌, map, length, refl, sym, ap, subst, arith}
 use Rattle.std.specs.Prelude.{Option, Some, None, Result, Ok, Err, option_to_list}
 use Rattle.std.proofs.lemmas.List.{length-append}
 use Rattle.wasm_ast.specs.declared.types.ValTy.{ValTy}
-use Rattle.wasm_ast.specs.declared.types.ValTy.TheVariants.{I32, I64}
 use Rattle.wasm_ast.specs.declared.instructions.WInstr.{WInstr, out-WInstr}
 use Rattle.wasm_ast.specs.declared.instructions.WInstr.TheOpen.{WInstr-F}
 use Rattle.wasm_grammar.specs.ProfileInstructions.{InstructionFits, InstructionsFit, none_fit, more_fit}
 use Rattle.wasm_typing.specs.declared.rule.WRule.{WRule}
 use Rattle.wasm_typing.specs.declared.context.Context.{Context}
-use Rattle.wasm_typing.specs.Signatures.{Slot, The, Same, Left, Gives, Anything, Signature, signature_in}
+use Rattle.wasm_typing.specs.Signatures.{Slot, Left, Gives, Anything, Signature, signature_in}
 use Rattle.wasm_typing.specs.Typing.{Labels, fill, IsLeft, Applies, IsTyped, AreTyped, plain, block, loop, one_arm, two_arms, none, more}
-use Rattle.wasm_typing.specs.Heights.{Met, count, met_left, met_plain, met_then, met_list, met_block, met_in, met_of}
+use Rattle.wasm_typing.specs.Heights.{Met, count, met_left, met_plain, met_then, met_list, met_in, met_of}
 use Rattle.wasm_typing.proofs.HeightLayers.{met-layer}
 use Rattle.wasm_machine_typing.specs.Values.{AreOf}
 use Rattle.wasm_machine_typing.specs.Lists.{Runs}
@@ -99,19 +98,23 @@ module _ (C : Context) (ls : Labels) where
       let split = length-append v.0 v.1 in
       let fall = falls s g i rest (length operands + under) room e eg h.fits in
       record {
-        at = a.at; taken = v.0; below = v.1; parted = v.2; of = v.3;
+        at = a.at;
+        taken = v.0;
+        below = v.1;
+        parted = v.2;
+        of = v.3;
         on = λ given k.
-          let glong = as_long (map (fill a.at) (option_to_list g)) given k in
-          let gcount = count-fill a.at g in
-          let gsplit = length-append given v.1 in
-          let n : (length operands + under - length s.takes) + count g ≡ length (given ++ v.1) + under = omega (arith, long, takes, all, split, glong, gcount, gsplit) in
-          record {
-            types = map (fill a.at) (option_to_list g) ++ a.below;
-            values = join (map (fill a.at) (option_to_list g)) a.below given v.1 k v.4;
-            typed = subst (λ (ts : List ValTy). AreTyped C ls rest ts (option_to_list result)) l p.2;
-            numbers = (first_fits i rest (i ∷ rest) refl h.numbers).1;
-            fits = subst (λ (m : ℕ). (met_list (met_of C) rest ls m).most ≤ room) n fall;
-          };
+            let glong = as_long (map (fill a.at) (option_to_list g)) given k in
+            let gcount = count-fill a.at g in
+            let gsplit = length-append given v.1 in
+            let n : (length operands + under - length s.takes) + count g ≡ length (given ++ v.1) + under = omega (arith, long, takes, all, split, glong, gcount, gsplit) in
+            record {
+              types = map (fill a.at) (option_to_list g) ++ a.below;
+              values = join (map (fill a.at) (option_to_list g)) a.below given v.1 k v.4;
+              typed = subst (λ (ts : List ValTy). AreTyped C ls rest ts (option_to_list result)) l p.2;
+              numbers = (first_fits i rest (i ∷ rest) refl h.numbers).1;
+              fits = subst (λ (m : ℕ). (met_list (met_of C) rest ls m).most ≤ room) n fall;
+            };
       }
 
   pub taken_by : (room : ℕ) (i : WInstr) (rest : List WInstr) (operands : List ℕ) (under : ℕ) (result : Option ValTy) (s : Signature) →

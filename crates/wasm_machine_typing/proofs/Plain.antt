@@ -1,18 +1,15 @@
 -- Each plain instruction of a typed configuration goes on, or traps.
-use Rattle.std.proofs.Common.{◌≡◌, ◌∙◌, ℕ, zero, suc, ◌+◌, ◌-◌, ◌*◌, ◌/◌, ◌^◌, ◌<◌, ◌≤◌, Bool, true, false, List, [], ◌∷◌, ◌++◌, map, length, slice_get, slice_set, refl, sym, ap, subst, arith}
-use Rattle.std.specs.Prelude.{Option, Some, None, Result, Ok, Err, option_map, nat_le, nat_lt, ◌==◌, if◌then◌else◌}
+use Rattle.std.proofs.Common.{◌≡◌, ◌∙◌, ℕ, zero, suc, ◌+◌, ◌-◌, ◌*◌, ◌^◌, ◌<◌, ◌≤◌, Bool, true, false, List, [], ◌∷◌, ◌++◌, length, slice_get, slice_set, refl, sym, ap, subst, arith}
+use Rattle.std.specs.Prelude.{Some, None, Ok, Err, option_map, nat_le, nat_lt, ◌==◌, if◌then◌else◌}
 use Rattle.std.proofs.lemmas.Bool.{leb-true}
 use Rattle.std.proofs.lemmas.List.{length-append}
 use Rattle.std.proofs.lemmas.Option.{slice_get-map}
 use Rattle.memory_words.specs.Memories.{zeros, read, write}
 use Rattle.memory_words.proofs.Bytes.{length-zeros}
 use Rattle.memory_words.proofs.Words.{length-write}
-use Rattle.wasm_operators.specs.declared.UnOp.{UnOp}
 use Rattle.wasm_operators.specs.declared.BinOp.{BinOp}
 use Rattle.wasm_operators.specs.declared.CmpOp.{CmpOp}
-use Rattle.wasm_operators.specs.declared.CvtOp.{CvtOp}
 use Rattle.wasm_operators.specs.declared.CvtOp.TheVariants as convert
-use Rattle.wasm_num.specs.declared.NumTrap.{NumTrap}
 use Rattle.wasm_num.specs.Widths.{IsWithin}
 use Rattle.wasm_num.specs.Operators.{unary, binary, compares, truth, converted}
 use Rattle.wasm_num.proofs.Ranges.{stays_within}
@@ -28,25 +25,25 @@ use Rattle.wasm_ast.specs.Immediates as immediate
 use Rattle.wasm_typing.specs.declared.rule.WRule.TheVariants.{MemoryIndex, GlobalIndex, LocalIndex, ConstGlobal, Alignment}
 use Rattle.wasm_typing.specs.declared.context.Context.{Context}
 use Rattle.wasm_typing.specs.declared.context.GlobalType.{GlobalType}
-use Rattle.wasm_typing.specs.Signatures.{Slot, The, Same, Gives, Signature, ◌⇒◌, found, needs, signature_of}
+use Rattle.wasm_typing.specs.Signatures.{The, Same, Signature, ◌⇒◌, needs, signature_of}
 use Rattle.machine_steps.specs.declared.End.TheVariants.{Trap}
 use Rattle.machine_steps.specs.declared.Trap.TheVariants.{MemoryBounds}
 use Rattle.machine_steps.specs.Steps.{Turn, Went, Ended}
 use Rattle.wasm_execution.specs.Types.{width_of}
-use Rattle.wasm_execution.specs.Configurations.{Here, Store, Config, Event}
+use Rattle.wasm_execution.specs.Configurations.{Config, Event}
 use Rattle.wasm_execution.specs.Environments.{Environment}
-use Rattle.wasm_execution.specs.Turns.{with_found, with_one, with_two, goes_on, leaves, traps}
-use Rattle.wasm_execution.specs.Numbers.{trap_of, constant, apply_unary, apply_binary, test_zero, apply_compare, apply_convert}
+use Rattle.wasm_execution.specs.Turns.{with_one, goes_on, leaves, traps}
+use Rattle.wasm_execution.specs.Numbers.{trap_of, constant, apply_binary, apply_compare}
 use Rattle.wasm_execution.specs.Variables.{chosen, drop_one, select_one, get_local, set_local, tee_local, get_global, set_global}
-use Rattle.wasm_execution.specs.Memories.{loaded, pages_of, touches, access_at, load_number, store_number, size_of_memory, grow_memory}
-use Rattle.wasm_execution.specs.Steps.{act, step, step_at}
+use Rattle.wasm_execution.specs.Memories.{loaded, pages_of, touches, load_number, store_number, size_of_memory, grow_memory}
+use Rattle.wasm_execution.specs.Steps.{act, step_at}
 use Rattle.wasm_machine_typing.specs.Values.{AreOf}
 use Rattle.wasm_machine_typing.specs.Configurations.{global_types, IsTypedEnvironment, IsTypedStore, IsTypedConfig, IsTypedTurn}
 use Rattle.wasm_machine_typing.specs.Laws.{StaysInList, PlainGoesOn, StandsWithin}
 use Rattle.wasm_machine_typing.proofs.Values.{looked_up, put, one, two, three}
-use Rattle.wasm_machine_typing.proofs.Lists.{Used, stands}
+use Rattle.wasm_machine_typing.proofs.Lists.{stands}
 use Rattle.wasm_machine_typing.proofs.Memories.{read-within, loaded-within, bytes-write, bytes-more}
-use Rattle.wasm_machine_typing.proofs.Going.{found_back, needs_back, chosen_back, plain_numbers, body, going, on_found, on_one, here, Use, fits_here, has, use_of, next, next_on}
+use Rattle.wasm_machine_typing.proofs.Going.{found_back, needs_back, chosen_back, plain_numbers, body, going, on_found, on_one, fits_here, has, use_of, next, next_on}
 
 -- no load or store moves more bytes than a value of its type has
 pub narrow : (w : WInstr-F WInstr) → FitsItsType (operation_in w)

@@ -1,6 +1,6 @@
 -- The row: one function, no globals, no table and no memory.
-use Rattle.std.proofs.Common.{◌≡◌, ◌∙◌, ℕ, zero, suc, ◌^◌, ◌<◌, List, [], ◌∷◌, refl, sym, ap, subst, slice_get, arith}
-use Rattle.std.specs.Prelude.{Option, Some, None, Ok}
+use Rattle.std.proofs.Common.{◌≡◌, ◌∙◌, ℕ, zero, suc, ◌^◌, ◌<◌, [], ◌∷◌, refl, sym, ap, subst, slice_get, arith}
+use Rattle.std.specs.Prelude.{Option, Some}
 use Rattle.wasm_ast.specs.declared.types.FuncType.{FuncType}
 use Rattle.wasm_ast.specs.declared.types.ValTy.TheVariants.{I64}
 use Rattle.wasm_ast.specs.declared.instructions.WInstr as w
@@ -8,9 +8,8 @@ use Rattle.wasm_ast.specs.declared.instructions.WInstr.{WInstr, out-WInstr, roll
 use Rattle.wasm_ast.specs.declared.instructions.WInstr.TheOpen.{WInstr-F}
 use Rattle.wasm_ast.specs.declared.instructions.WInstr.TheVariants as v
 use Rattle.wasm_ast.specs.declared.modules.Code.{Code}
-use Rattle.wasm_ast.specs.Immediates.{Immediate, immediate_in}
+use Rattle.wasm_ast.specs.Immediates.{immediate_in}
 use Rattle.wasm_grammar.specs.ProfileInstructions.{ImmediateFits, InstructionsFit, plain_fits, none_fit, more_fit}
-use Rattle.wasm_typing.specs.declared.context.Context.{Context}
 use Rattle.wasm_typing.specs.Contexts.{body_context, context_of}
 use Rattle.wasm_typing.specs.Signatures.{The, ◌⇒◌, signature_in}
 use Rattle.wasm_typing.specs.Typing.{IsTypedBody, plain, none, more}
@@ -46,6 +45,7 @@ environment_typed = record { types = refl; functions = listed; codes = typed; pa
     listed : (n : ℕ) (ty : FuncType) → slice_get (context_of alone).functions n ≡ Some ty → (code : Option Code) × (function_at (environment_of alone) n ≡ Some (of_code ty code))
     listed zero ty q = let same : main_type ≡ ty = (cc) in (Some six, ap (λ (t : FuncType). Some (of_code t (Some six))) same)
     listed (suc n) ty q = absurd (cc)
+
     typed : (n : ℕ) (f : Function) → function_at (environment_of alone) n ≡ Some f → IsTypedCode (context_of alone) f.ty f.code
     typed zero f q = let same : of_code main_type (Some six) ≡ f = (cc) in subst (λ (g : Function). IsTypedCode (context_of alone) g.ty g.code) same (six_typed, six_fits)
     typed (suc n) f q = absurd (cc)

@@ -1,15 +1,15 @@
 -- Each step of a typed configuration leads to a typed one or to an end, and so do any number of steps.
-use Rattle.std.proofs.Common.{◌≡◌, ◌≢◌, ◌∙◌, ℕ, zero, suc, List, [], ◌∷◌, refl, sym, subst}
+use Rattle.std.proofs.Common.{◌≡◌, ◌≢◌, ℕ, zero, suc, List, [], ◌∷◌, refl}
 use Rattle.wasm_ast.specs.declared.instructions.WInstr.{WInstr, out-WInstr}
 use Rattle.wasm_ast.specs.Operations.{Operation, operation_in}
 use Rattle.wasm_ast.specs.Operations as op
 use Rattle.wasm_typing.specs.declared.context.Context.{Context}
-use Rattle.machine_steps.specs.Steps.{Turn, Went, Ended, NoStep, Stand, Going, Over, Stuck, reached, reached_by}
+use Rattle.machine_steps.specs.Steps.{Turn, Went, Ended, NoStep, Stuck, reached, reached_by}
 use Rattle.wasm_execution.specs.Configurations.{Config, Event}
 use Rattle.wasm_execution.specs.Environments.{Environment}
 use Rattle.wasm_execution.specs.Steps.{act, step, step_at}
 use Rattle.wasm_machine_typing.specs.Configurations.{IsTypedEnvironment, IsTypedConfig, IsTypedTurn}
-use Rattle.wasm_machine_typing.specs.Laws.{StaysInList, EachStepGoesOn, NeverStuck, CallsAreTyped}
+use Rattle.wasm_machine_typing.specs.Laws.{EachStepGoesOn, NeverStuck, CallsAreTyped}
 use Rattle.wasm_machine_typing.proofs.Plain.{plain_acts}
 use Rattle.wasm_machine_typing.proofs.Calls.{calls_direct, calls_indirect, entered_typed}
 use Rattle.wasm_machine_typing.proofs.Control.{end_reached, block_entered, loop_entered, arm_entered, either_entered, branches, branches_if, branches_by_table, returns}

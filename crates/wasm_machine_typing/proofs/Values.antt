@@ -1,5 +1,5 @@
 -- Values of rows of types: parted, joined, looked up, set and turned round.
-use Rattle.std.proofs.Common.{◌≡◌, ◌∙◌, ℕ, zero, suc, ◌+◌, ◌<◌, ◌^◌, List, [], ◌∷◌, ◌++◌, map, length, slice_get, slice_set, refl, sym, ap, subst, reverse, arith}
+use Rattle.std.proofs.Common.{◌≡◌, ◌∙◌, ℕ, zero, suc, List, [], ◌∷◌, ◌++◌, map, length, slice_get, slice_set, refl, sym, ap, subst, reverse, arith}
 use Rattle.std.specs.Prelude.{Option, Some, None, replicate, option_to_list, option_map}
 use Rattle.std.proofs.lemmas.List.{reverse-append, replicate-append-replicate, map-append}
 use Rattle.wasm_num.specs.Widths.{IsWithin}
@@ -7,7 +7,7 @@ use Rattle.wasm_ast.specs.declared.types.ValTy.{ValTy}
 use Rattle.wasm_ast.specs.declared.types.ValTy.TheVariants.{I32, I64}
 use Rattle.wasm_ast.specs.declared.modules.LocalRun.{LocalRun}
 use Rattle.wasm_typing.specs.Contexts.{declared_locals}
-use Rattle.wasm_typing.specs.Signatures.{Slot, The, Same}
+use Rattle.wasm_typing.specs.Signatures.{Slot, The}
 use Rattle.wasm_typing.specs.Typing.{fill}
 use Rattle.wasm_execution.specs.Types.{width_of, results_of}
 use Rattle.wasm_execution.specs.Calls.{declared}

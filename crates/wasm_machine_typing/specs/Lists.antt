@@ -1,6 +1,6 @@
 -- What holds of the lists that a call has open: each is typed, and what it may yet put on the operands fits the room of the call
 -- (WebAssembly Core Specification 1.0, appendix A.5, "configuration validity"; the room is this project's own).
-use Rattle.std.specs.Prelude.{◌≡◌, ℕ, ◌+◌, ◌≤◌, List, [], ◌∷◌, ◌++◌, Option, Some, None, length, option_to_list}
+use Rattle.std.specs.Prelude.{◌≡◌, ℕ, ◌+◌, ◌≤◌, List, [], ◌∷◌, ◌++◌, Option, None, length, option_to_list}
 use Rattle.wasm_ast.specs.declared.types.ValTy.{ValTy}
 use Rattle.wasm_ast.specs.declared.instructions.WInstr.{WInstr}
 use Rattle.wasm_grammar.specs.ProfileInstructions.{InstructionsFit}

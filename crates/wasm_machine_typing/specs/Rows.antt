@@ -1,7 +1,5 @@
 -- A module whose first configuration is typed (this project's own row).
-use Rattle.std.specs.Prelude.{[], ◌∷◌, Some, None}
-use Rattle.wasm_ast.specs.declared.types.FuncType.{FuncType}
-use Rattle.wasm_ast.specs.declared.types.ValTy.TheVariants.{I64}
+use Rattle.std.specs.Prelude.{[], ◌∷◌}
 use Rattle.wasm_ast.specs.declared.instructions.WInstr as w
 use Rattle.wasm_ast.specs.declared.modules.Code.{Code}
 use Rattle.wasm_typing.specs.Contexts.{context_of}

@@ -5,4 +5,6 @@
 
 mod laws;
 
-pub use laws::{a_first_configuration_is_typed, plain_instructions_go_on, typed_configurations_go_on};
+pub use laws::{
+    a_first_configuration_is_typed, plain_instructions_go_on, typed_configurations_go_on,
+};
