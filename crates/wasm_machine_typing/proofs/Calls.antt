@@ -53,7 +53,7 @@ same_result (Some t) None q = absurd (cc)
 same_result (Some t) (Some u) q = ap (λ (x : ValTy). Some x) (same_value t u q)
 
 -- types that are the same
-same_type : (f g : FuncType) → is_same_type f g ≡ true → (f.params ≡ g.params) × (f.result ≡ g.result)
+pub same_type : (f g : FuncType) → is_same_type f g ≡ true → (f.params ≡ g.params) × (f.result ≡ g.result)
 same_type f g q =
     let p = and_split (are_same_value_types f.params g.params) (is_same_result f.result g.result) q in
     (same_values f.params g.params p.0, same_result f.result g.result p.1)
