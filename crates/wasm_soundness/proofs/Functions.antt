@@ -1,11 +1,10 @@
 -- The functions that steps look up are those of the module's context.
-use Rattle.std.proofs.Common.{◌≡◌, ◌∙◌, ℕ, zero, suc, ◌<◌, ◌≤◌, min, Bool, true, false, List, [], ◌∷◌, ◌++◌, length, map, slice_get, refl, sym, ap, subst, arith}
-use Rattle.std.specs.Prelude.{Option, Some, None, All, flat_map, option_to_list, codes, ◌&&◌}
+use Rattle.std.proofs.Common.{◌≡◌, ◌∙◌, ℕ, zero, suc, ◌≤◌, min, true, false, List, [], ◌∷◌, ◌++◌, length, map, slice_get, refl, sym, ap, subst, arith}
+use Rattle.std.specs.Prelude.{Option, Some, None, flat_map, option_to_list, codes, ◌&&◌}
 use Rattle.std.specs.Str.{bytes_eq}
 use Rattle.std.proofs.lemmas.Option.{slice_get_within}
 use Rattle.wasm_ast.specs.declared.types.FuncType.{FuncType}
 use Rattle.wasm_ast.specs.declared.types.Limits.{Limits}
-use Rattle.wasm_ast.specs.declared.types.ValTy.{ValTy}
 use Rattle.wasm_ast.specs.declared.types.ValTy.TheVariants.{I64}
 use Rattle.wasm_ast.specs.declared.modules.Code.{Code}
 use Rattle.wasm_ast.specs.declared.modules.Import.{Import}
@@ -17,7 +16,7 @@ use Rattle.wasm_typing.specs.declared.context.Context.{Context}
 use Rattle.wasm_typing.specs.Contexts.{context_of, body_context, function_type, imported_globals}
 use Rattle.wasm_typing.specs.Contexts as contexts
 use Rattle.wasm_typing.specs.Fields.{function_rule, is_index}
-use Rattle.wasm_typing.specs.Modules.{IsValid, HasBody}
+use Rattle.wasm_typing.specs.Modules.{IsValid}
 use Rattle.wasm_typing.specs.declared.rule.WRule.TheVariants.{TypeIndex}
 use Rattle.wasm_execution.specs.Types.{is_same_type, takes_and_gives}
 use Rattle.wasm_execution.specs.Environments.{Environment, Function, environment_of, function_at, function_in, function_with, functions_of, imported, own_functions, most_pages_of}
@@ -118,9 +117,10 @@ module _ (m : WModule) (valid : IsValid m) (profile : IsInProfile m) (prints : A
       is_found n m.types (unbroken (is_index n m.types) TypeIndex (alone_none (function_rule (context_of m)) [] m.funcs j n (sound_fields m valid.before).0 q))
 
   typed : (j n : ℕ) (t : FuncType) (code : Code) → slice_get m.funcs j ≡ Some n → slice_get m.types n ≡ Some t → slice_get m.codes j ≡ Some code → IsTypedCode (context_of m) t (Some code)
-  typed j n t code q r s =
-      (valid.codes j (body_context (context_of m) t code) code (slice_get_within m.codes j code s) (record { type_index = n; ty = t; listed = q; typed = r; there = s; context = refl }),
-       (all_at CodeFits m.codes j code profile.codes.each s).body)
+  typed j n t code q r s = (
+    valid.codes j (body_context (context_of m) t code) code (slice_get_within m.codes j code s) (record { type_index = n; ty = t; listed = q; typed = r; there = s; context = refl }),
+    (all_at CodeFits m.codes j code profile.codes.each s).body,
+  )
 
   pub functions_agree : Agree (context_of m) (context_of m).functions (functions_of m)
   functions_agree =

@@ -1,26 +1,23 @@
 -- A valid module of the profile that starts, starts typed.
-use Rattle.std.proofs.Common.{◌≡◌, ◌≢◌, ◌∙◌, ℕ, Bool, true, false, List, [], ◌∷◌, map, refl, sym, ap, subst}
+use Rattle.std.proofs.Common.{◌≡◌, ◌∙◌, ℕ, Bool, true, false, List, [], map, refl, sym, ap, subst}
 use Rattle.std.specs.Prelude.{Option, Some, None, codes}
 use Rattle.wasm_ast.specs.declared.types.FuncType.{FuncType}
 use Rattle.wasm_ast.specs.declared.types.ValTy.{ValTy}
 use Rattle.wasm_ast.specs.declared.types.ValTy.TheVariants.{I64}
 use Rattle.wasm_ast.specs.declared.modules.Code.{Code}
 use Rattle.wasm_ast.specs.declared.modules.WModule.{WModule}
-use Rattle.wasm_grammar.specs.Profile.{IsInProfile}
 use Rattle.wasm_typing.specs.Contexts.{context_of}
-use Rattle.wasm_typing.specs.Modules.{IsValid}
-use Rattle.machine_steps.specs.Steps.{Stuck}
 use Rattle.wasm_execution.specs.Types.{is_same_type, takes_and_gives}
-use Rattle.wasm_execution.specs.Configurations.{Bottom, TheEnd, ThenCall, Config}
-use Rattle.wasm_execution.specs.Environments.{Environment, Function, environment_of, function_at, exported, is_func}
+use Rattle.wasm_execution.specs.Configurations.{TheEnd, ThenCall, Config}
+use Rattle.wasm_execution.specs.Environments.{Function, environment_of, function_at, exported, is_func}
 use Rattle.wasm_execution.specs.Imports.{is_print}
-use Rattle.wasm_execution.specs.Starts.{Start, UnknownImport, SegmentOut, NoMain, NoStartFunction, Begins, first_failing, first_out, first_store, code_of_type, start_main, start_exported, start_of}
+use Rattle.wasm_execution.specs.Starts.{Start, UnknownImport, SegmentOut, NoMain, NoStartFunction, Begins, first_failing, first_out, first_store, code_of_type, start_main, start_exported}
 use Rattle.wasm_execution.specs.Calls.{entered}
-use Rattle.wasm_execution.specs.Behaviour.{wasm, seen_from}
+use Rattle.wasm_execution.specs.Behaviour.{seen_from}
 use Rattle.wasm_machine_typing.specs.Configurations.{of_code, IsTypedEnvironment, IsTypedConfig}
 use Rattle.wasm_machine_typing.proofs.Calls.{same_type, entered_typed}
 use Rattle.wasm_machine_typing.proofs.Steps.{runs_on}
-use Rattle.wasm_soundness.specs.Laws.{StartsTyped, ValidStartsTyped, ValidNeverStuck}
+use Rattle.wasm_soundness.specs.Laws.{ValidStartsTyped, ValidNeverStuck}
 use Rattle.wasm_soundness.proofs.Functions.{are_prints, environment_typed}
 use Rattle.wasm_soundness.proofs.Stores.{store_typed}
 

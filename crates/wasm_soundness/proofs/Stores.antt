@@ -1,6 +1,6 @@
 -- The store that a valid module starts with is typed.
-use Rattle.std.proofs.Common.{◌≡◌, ◌∙◌, ℕ, zero, suc, ◌+◌, ◌*◌, ◌^◌, ◌<◌, ◌≤◌, Bool, true, false, List, [], ◌∷◌, ◌++◌, length, map, take, drop, slice_get, refl, sym, ap, subst, arith}
-use Rattle.std.specs.Prelude.{Option, Some, None, All, replicate, slice_index_or, if◌then◌else◌, nat_le, nat_lt}
+use Rattle.std.proofs.Common.{◌≡◌, ◌∙◌, ℕ, zero, suc, ◌+◌, ◌*◌, ◌<◌, ◌≤◌, Bool, true, false, List, [], ◌∷◌, ◌++◌, length, map, take, drop, slice_get, refl, sym, subst, arith}
+use Rattle.std.specs.Prelude.{Option, Some, None, All, replicate, slice_index_or, if◌then◌else◌, nat_lt}
 use Rattle.std.proofs.lemmas.Bool.{leb-true}
 use Rattle.std.proofs.lemmas.List.Elements.{All-append, All-take, All-drop, All-replicate, All-nil}
 use Rattle.memory_words.specs.Memories.{zeros, put}
@@ -30,7 +30,7 @@ use Rattle.wasm_execution.specs.Types.{width_of}
 use Rattle.wasm_execution.specs.Environments.{Environment, Function, environment_of, function_at, functions_of}
 use Rattle.wasm_execution.specs.Starts.{first_failing, first_globals, first_entries, first_bytes, fits_table, fits_memory, first_out, first_store, put_functions, put_elements, put_segments, value_in}
 use Rattle.wasm_machine_typing.specs.Values.{AreOf}
-use Rattle.wasm_machine_typing.specs.Configurations.{global_types, IsTypedStore}
+use Rattle.wasm_machine_typing.specs.Configurations.{IsTypedStore}
 use Rattle.wasm_machine_typing.proofs.Memories.{AreBytes}
 use Rattle.wasm_machine_typing.proofs.Going.{plain_numbers}
 use Rattle.wasm_soundness.proofs.Faults.{all_at, all_head, all_tail, alone_none, sound_fields, third, failing, failing_behind, is_found}
@@ -149,8 +149,8 @@ module _ (m : WModule) (valid : IsValid m) (profile : IsInProfile m) (prints : A
       record {
         globals = subst (λ (l : List GlobalType). AreOf (map (λ (g : GlobalType). g.ty) (l ++ map type_of_global m.globals)) globals) (sym (no_imported_globals m.types m.imports prints)) (globals_typed m.globals each_global);
         table = λ i n q.
-          all_at (IsEntry e) (put_elements globals m.elements (replicate (first_entries m.tables) None)) i (Some n)
-          (elements_entries globals m.elements (replicate (first_entries m.tables) None) each_element (All-replicate (IsEntry e) (first_entries m.tables) None tt)) q;
+            all_at (IsEntry e) (put_elements globals m.elements (replicate (first_entries m.tables) None)) i (Some n)
+            (elements_entries globals m.elements (replicate (first_entries m.tables) None) each_element (All-replicate (IsEntry e) (first_entries m.tables) None tt)) q;
         bytes = segments_bytes globals m.segments (zeros (first_bytes m.memories)) profile.segments.each (bytes-zeros (first_bytes m.memories));
         pages = pages m.memories;
         whole = segments_long globals m.segments behind.0 (first_bytes m.memories) (zeros (first_bytes m.memories)) (length-zeros (first_bytes m.memories)) behind.1 ∙ bytes_pages m.memories;
