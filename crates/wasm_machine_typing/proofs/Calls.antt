@@ -23,8 +23,8 @@ use Rattle.wasm_execution.specs.Environments.{Environment, function_at}
 use Rattle.wasm_execution.specs.Turns.{with_found, with_all, first_or_zero, traps}
 use Rattle.wasm_execution.specs.Calls.{declared, entered, ends_with, calls, call, call_direct, call_typed, call_indirect, give, return_now, return_at_end}
 use Rattle.wasm_machine_typing.specs.Values.{AreOf}
-use Rattle.wasm_machine_typing.specs.Lists.{beneath, Runs}
-use Rattle.wasm_machine_typing.specs.Configurations.{of_code, IsTypedEnvironment, IsTypedStore, IsTypedBottom, AreWaiting, IsTypedConfig, IsTypedTurn}
+use Rattle.wasm_machine_typing.specs.Lists.{count_beneath, Runs}
+use Rattle.wasm_machine_typing.specs.Configurations.{of_code, IsTypedEnvironment, IsTypedStore, IsTypedBottom, AreTypedCallers, IsTypedConfig, IsTypedTurn}
 use Rattle.wasm_machine_typing.proofs.Values.{as_long, join, turned, declared_zeros, results_long, params_filled, result_filled}
 use Rattle.wasm_machine_typing.proofs.Going.{found_back, needs_back, body, going, on_found, has, use_of}
 
@@ -77,7 +77,7 @@ results_taken t vs h = as_long (option_to_list t) vs h ∙ results_long t
 module _ (C : Context) (e : Environment) (env : IsTypedEnvironment C e) where
   -- a call that begins is typed
   pub entered_typed : (n : ℕ) (ty : FuncType) (code : Code) (operands : List ℕ) (callers : List Here) (bottom : Bottom) (s : Store) → function_at e n ≡ Some (of_code ty (Some code)) → AreOf (reverse ty.params) operands
-      → AreWaiting C e ty.result callers bottom → IsTypedStore C e s → IsTypedConfig C e (entered n code operands callers bottom s)
+      → AreTypedCallers C e ty.result callers bottom → IsTypedStore C e s → IsTypedConfig C e (entered n code operands callers bottom s)
   entered_typed n ty code operands callers bottom s there values waiting store =
       let d = env.codes n (of_code ty (Some code)) there in
       let B = body_context C ty code in
@@ -115,7 +115,7 @@ module _ (C : Context) (e : Environment) (env : IsTypedEnvironment C e) where
         on_found C e c h (function_at e n) (of_code ty (Some code)) (λ f. with_found f.code (λ x. Went [] (entered n x [] [] TheEnd c.store))) b.1.1
         (entered_typed n ty code [] [] TheEnd c.store b.1.1 tt refl h.store)
 
-    gave : (vs : List ℕ) (result : Option ValTy) (callers : List Here) → AreOf (option_to_list result) vs → AreWaiting C e result callers c.bottom → Good (give e vs callers c.bottom c)
+    gave : (vs : List ℕ) (result : Option ValTy) (callers : List Here) → AreOf (option_to_list result) vs → AreTypedCallers C e result callers c.bottom → Good (give e vs callers c.bottom c)
     gave vs result [] k w = at_bottom vs result c.bottom k w
     gave vs result (caller ∷ callers) k w = record { ty = w.0; code = w.1; call = w.2 vs k; waiting = w.3; store = h.store }
 
@@ -136,7 +136,7 @@ module _ (C : Context) (e : Environment) (env : IsTypedEnvironment C e) where
     -- what a call is given back goes on
     abbrev GoesOnWith : List WInstr → List ℕ → Option ValTy → Type 0
     GoesOnWith rest below result = (vs : List ℕ) → AreOf (option_to_list result) vs
-        → Runs (body C e c h) (height_of (body C e c h) h.code.body) h.call.labels rest (vs ++ below) (beneath c.here.levels) h.call.result
+        → Runs (body C e c h) (height_of (body C e c h) h.code.body) h.call.labels rest (vs ++ below) (count_beneath c.here.levels) h.call.result
 
     -- a call with its arguments on top
     called : (n : ℕ) (ty : FuncType) (code : Option Code) (arguments below : List ℕ) (rest : List WInstr) → function_at e n ≡ Some (of_code ty code) → AreOf (reverse ty.params) arguments → GoesOnWith rest below ty.result

@@ -19,7 +19,7 @@ use Rattle.wasm_execution.specs.Turns.{with_all, goes_on}
 use Rattle.wasm_execution.specs.Calls.{return_now}
 use Rattle.wasm_execution.specs.Control.{enter, enter_block, enter_loop, enter_if, enter_either, arrive, branch, branch_to, branch_if, branch_table, leave}
 use Rattle.wasm_machine_typing.specs.Values.{AreOf}
-use Rattle.wasm_machine_typing.specs.Lists.{beneath, Runs, Leads, AreOpen}
+use Rattle.wasm_machine_typing.specs.Lists.{count_beneath, Runs, IsTypedAim, AreOpen}
 use Rattle.wasm_machine_typing.specs.Configurations.{IsTypedEnvironment, IsTypedConfig, IsTypedTurn}
 use Rattle.wasm_machine_typing.proofs.Values.{result_filled}
 use Rattle.wasm_machine_typing.proofs.Going.{found_back, needs_back, body, room, runs, has, use_of, take_of}
@@ -69,7 +69,7 @@ module _ (C : Context) (e : Environment) (env : IsTypedEnvironment C e) (c : Con
   Good t = IsTypedTurn C e t
 
   -- the call that runs goes on in this list
-  at_level : (operands : List ℕ) (rest : List WInstr) (levels : List Level) (labels : Labels) (result : Option ValTy) → Runs (body C e c h) (room C e c h) labels rest operands (beneath levels) result
+  at_level : (operands : List ℕ) (rest : List WInstr) (levels : List Level) (labels : Labels) (result : Option ValTy) → Runs (body C e c h) (room C e c h) labels rest operands (count_beneath levels) result
       → AreOpen (body C e c h) (room C e c h) levels labels result → IsTypedConfig C e (record c { here = record c.here { operands = operands; rest = rest; levels = levels } })
   at_level operands rest levels labels result r o = record {
     ty = h.ty;
@@ -84,15 +84,15 @@ module _ (C : Context) (e : Environment) (env : IsTypedEnvironment C e) (c : Con
   no_value t (v ∷ vs) q k = absurd (subst (λ (x : Option ValTy). AreOf (option_to_list x) (v ∷ vs)) q k)
 
   arrived : (aim : Aim) (l : Level) (levels : List Level) (label : Option ValTy) (ls : Labels) (result : Option ValTy) (taken operands : List ℕ) (rest : List WInstr)
-      → Leads (body C e c h) (room C e c h) aim ls (length l.beneath + beneath levels) label result → AreOpen (body C e c h) (room C e c h) (l ∷ levels) (label ∷ ls) result → AreOf (option_to_list label) taken
+      → IsTypedAim (body C e c h) (room C e c h) aim ls (length l.beneath + count_beneath levels) label result → AreOpen (body C e c h) (room C e c h) (l ∷ levels) (label ∷ ls) result → AreOf (option_to_list label) taken
       → Good (arrive aim taken l levels (record c.here { operands = operands; rest = rest }) c)
   arrived Past l levels label ls result taken operands rest lead o k =
       at_level (taken ++ l.beneath) l.rest levels ls o.0 (o.4 taken (subst (λ (t : Option ValTy). AreOf (option_to_list t) taken) lead k)) o.5
   arrived (Back again) l levels label ls result taken operands rest lead o k =
       let nothing = no_value label taken lead.0 k in
       at_level taken again (l ∷ levels) (label ∷ ls) result
-      (subst (λ (os : List ℕ). Runs (body C e c h) (room C e c h) (label ∷ ls) again os (length l.beneath + beneath levels) result) (sym nothing)
-      (subst (λ (t : Option ValTy). Runs (body C e c h) (room C e c h) (t ∷ ls) again [] (length l.beneath + beneath levels) result) (sym lead.0) lead.1)) o
+      (subst (λ (os : List ℕ). Runs (body C e c h) (room C e c h) (label ∷ ls) again os (length l.beneath + count_beneath levels) result) (sym nothing)
+      (subst (λ (t : Option ValTy). Runs (body C e c h) (room C e c h) (t ∷ ls) again [] (length l.beneath + count_beneath levels) result) (sym lead.0) lead.1)) o
 
   -- a branch with what its label takes on top
   branched : (n : ℕ) (levels : List Level) (ls : Labels) (result t : Option ValTy) (taken below : List ℕ) (rest : List WInstr) → AreOpen (body C e c h) (room C e c h) levels ls result → slice_get ls n ≡ Some t
@@ -133,27 +133,27 @@ module _ (C : Context) (e : Environment) (env : IsTypedEnvironment C e) (c : Con
 
   module _ (i : WInstr) (rest : List WInstr) (er : c.here.rest ≡ i ∷ rest) where
     abbrev Nests : Option ValTy → Option ValTy → List WInstr → List ℕ → Type 0
-    Nests label t xs below = Enters (body C e c h) (room C e c h) h.call.labels label t xs rest below (beneath c.here.levels) h.call.result
+    Nests label t xs below = Enters (body C e c h) (room C e c h) h.call.labels label t xs rest below (count_beneath c.here.levels) h.call.result
 
     entered_list : (aim : Aim) (label t : Option ValTy) (xs : List WInstr) (below : List ℕ) → Nests label t xs below
-        → Leads (body C e c h) (room C e c h) aim h.call.labels (length below + beneath c.here.levels) label t → Good (enter aim (results_of label) t xs (record c.here { operands = below; rest = rest }) c)
+        → IsTypedAim (body C e c h) (room C e c h) aim h.call.labels (length below + count_beneath c.here.levels) label t → Good (enter aim (results_of label) t xs (record c.here { operands = below; rest = rest }) c)
     entered_list aim label t xs below n lead =
         let l : Level = record { aim = aim; takes = results_of label; gives = results_of t; beneath = below; rest = rest } in
         at_level [] xs (l ∷ c.here.levels) (label ∷ h.call.labels) t n.inside (h.call.result, refl, refl, lead, n.behind, h.call.open_lists)
 
     pub block_entered : (t : Option ValTy) (xs : List WInstr) → operation_in (out-WInstr i) ≡ op.Block t xs → Good (enter_block t xs (record c.here { rest = rest }) c)
     block_entered t xs q =
-        let n = block_enters (body C e c h) h.call.labels (room C e c h) rest (beneath c.here.levels) h.call.result i c.here.operands (runs C e c h i rest er) t xs q in
+        let n = block_enters (body C e c h) h.call.labels (room C e c h) rest (count_beneath c.here.levels) h.call.result i c.here.operands (runs C e c h i rest er) t xs q in
         entered_list Past t t xs c.here.operands n refl
 
     pub loop_entered : (t : Option ValTy) (xs : List WInstr) → operation_in (out-WInstr i) ≡ op.Loop t xs → Good (enter_loop t xs (record c.here { rest = rest }) c)
     loop_entered t xs q =
-        let n = loop_enters (body C e c h) h.call.labels (room C e c h) rest (beneath c.here.levels) h.call.result i c.here.operands (runs C e c h i rest er) t xs q in
+        let n = loop_enters (body C e c h) h.call.labels (room C e c h) rest (count_beneath c.here.levels) h.call.result i c.here.operands (runs C e c h i rest er) t xs q in
         entered_list (Back xs) None t xs c.here.operands n (refl, n.inside)
 
     pub arm_entered : (t : Option ValTy) (xs : List WInstr) → operation_in (out-WInstr i) ≡ op.If t xs → Good (enter_if t xs (record c.here { rest = rest }) c)
     arm_entered t xs q =
-        let p = arm_enters (body C e c h) h.call.labels (room C e c h) rest (beneath c.here.levels) h.call.result i c.here.operands (runs C e c h i rest er) t xs q in
+        let p = arm_enters (body C e c h) h.call.labels (room C e c h) rest (count_beneath c.here.levels) h.call.result i c.here.operands (runs C e c h i rest er) t xs q in
         let n = p.4 in
         let passed = n.behind [] (subst (λ (x : Option ValTy). AreOf (option_to_list x) []) (sym p.3) tt) in
         subst (λ (os : List ℕ). Good (enter_if t xs (record c.here { operands = os; rest = rest }) c)) (sym p.2)
@@ -162,7 +162,7 @@ module _ (C : Context) (e : Environment) (env : IsTypedEnvironment C e) (c : Con
 
     pub either_entered : (t : Option ValTy) (xs ys : List WInstr) → operation_in (out-WInstr i) ≡ op.IfElse t xs ys → Good (enter_either t xs ys (record c.here { rest = rest }) c)
     either_entered t xs ys q =
-        let p = arms_enter (body C e c h) h.call.labels (room C e c h) rest (beneath c.here.levels) h.call.result i c.here.operands (runs C e c h i rest er) t xs ys q in
+        let p = arms_enter (body C e c h) h.call.labels (room C e c h) rest (count_beneath c.here.levels) h.call.result i c.here.operands (runs C e c h i rest er) t xs ys q in
         subst (λ (os : List ℕ). Good (enter_either t xs ys (record c.here { operands = os; rest = rest }) c)) (sym p.2)
         (either p.0 (enter_block t ys (record c.here { operands = p.1; rest = rest }) c) (enter_block t xs (record c.here { operands = p.1; rest = rest }) c)
         (entered_list Past t t ys p.1 p.4 refl) (entered_list Past t t xs p.1 p.3 refl))

@@ -19,7 +19,7 @@ use Rattle.wasm_execution.specs.Configurations.{Here, Store, Config, Event}
 use Rattle.wasm_execution.specs.Environments.{Environment}
 use Rattle.wasm_execution.specs.Turns.{with_found, with_one, leaves}
 use Rattle.wasm_machine_typing.specs.Values.{AreOf}
-use Rattle.wasm_machine_typing.specs.Lists.{beneath, Runs}
+use Rattle.wasm_machine_typing.specs.Lists.{count_beneath, Runs}
 use Rattle.wasm_machine_typing.specs.Configurations.{IsTypedStore, IsTypedConfig, IsTypedTurn}
 use Rattle.wasm_machine_typing.proofs.Lists.{Used, Taken, used, taken_by, parts, first_fits}
 
@@ -64,7 +64,7 @@ module _ (C : Context) (e : Environment) (c : Config) (h : IsTypedConfig C e c) 
   room = height_of body h.code.body
 
   -- the call that runs goes on in its innermost list with these operands, locals and store
-  pub going : (operands locals : List ℕ) (rest : List WInstr) (s : Store) → AreOf body.locals locals → Runs body room h.call.labels rest operands (beneath c.here.levels) h.call.result → IsTypedStore C e s
+  pub going : (operands locals : List ℕ) (rest : List WInstr) (s : Store) → AreOf body.locals locals → Runs body room h.call.labels rest operands (count_beneath c.here.levels) h.call.result → IsTypedStore C e s
       → IsTypedConfig C e (record c { here = record c.here { operands = operands; locals = locals; rest = rest }; store = s })
   going operands locals rest s l r k = record {
     ty = h.ty;
@@ -84,11 +84,11 @@ module _ (C : Context) (e : Environment) (c : Config) (h : IsTypedConfig C e c) 
     abbrev pub here : Here
     here = record c.here { rest = rest }
 
-    pub runs : Runs body room h.call.labels (i ∷ rest) c.here.operands (beneath c.here.levels) h.call.result
-    runs = subst (λ (r : List WInstr). Runs body room h.call.labels r c.here.operands (beneath c.here.levels) h.call.result) er h.call.runs
+    pub runs : Runs body room h.call.labels (i ∷ rest) c.here.operands (count_beneath c.here.levels) h.call.result
+    runs = subst (λ (r : List WInstr). Runs body room h.call.labels r c.here.operands (count_beneath c.here.levels) h.call.result) er h.call.runs
 
     abbrev pub Use : List Slot → Option Slot → Type 0
-    Use takes left = Used body room h.call.labels rest c.here.operands (beneath c.here.levels) h.call.result takes left
+    Use takes left = Used body room h.call.labels rest c.here.operands (count_beneath c.here.levels) h.call.result takes left
 
     pub fits_here : InstructionFits i
     fits_here = (first_fits i rest (i ∷ rest) refl runs.numbers).0
@@ -101,12 +101,12 @@ module _ (C : Context) (e : Environment) (c : Config) (h : IsTypedConfig C e c) 
 
     pub use_of : (o : Operation WInstr) (s : Signature) (g : Option Slot) → operation_in (out-WInstr i) ≡ o → signature_of body h.call.labels o ≡ Ok s → s.left ≡ Gives g → Use s.takes g
     use_of o s g q es eg =
-        used body h.call.labels room i rest c.here.operands (beneath c.here.levels) h.call.result s g runs
+        used body h.call.labels room i rest c.here.operands (count_beneath c.here.levels) h.call.result s g runs
         (subst (λ (y : Operation WInstr). signature_of body h.call.labels y ≡ Ok s) (sym q) es) eg
 
     pub take_of : (o : Operation WInstr) (s : Signature) → operation_in (out-WInstr i) ≡ o → signature_of body h.call.labels o ≡ Ok s → Taken c.here.operands s.takes
     take_of o s q es =
-        taken_by body h.call.labels room i rest c.here.operands (beneath c.here.levels) h.call.result s runs
+        taken_by body h.call.labels room i rest c.here.operands (count_beneath c.here.levels) h.call.result s runs
         (subst (λ (y : Operation WInstr). signature_of body h.call.labels y ≡ Ok s) (sym q) es)
 
     pub next : (takes : List Slot) (g : Option Slot) (u : Use takes g) (given : List ℕ) → AreOf (map (fill u.at) (option_to_list g)) given → IsTypedTurn C e (leaves (given ++ u.below) here c)

@@ -19,7 +19,7 @@ use Rattle.wasm_execution.specs.Environments.{Function, environment_of, function
 use Rattle.wasm_execution.specs.Starts.{first_store}
 use Rattle.wasm_execution.specs.ControlRows.{alone}
 use Rattle.wasm_machine_typing.specs.Configurations.{of_code, IsTypedCode, IsTypedEnvironment, IsTypedStore}
-use Rattle.wasm_machine_typing.specs.Rows.{six, FirstIsTyped}
+use Rattle.wasm_machine_typing.specs.Rows.{main_code, FirstIsTyped}
 use Rattle.wasm_machine_typing.proofs.Calls.{entered_typed}
 
 six_opens : out-WInstr (w.I64Const 6) ≡ WInstr-F.I64Const 6
@@ -28,10 +28,10 @@ six_opens = ap out-WInstr (sym (v.rolls-I64Const 6)) ∙ out-roll-WInstr (WInstr
 abbrev main_type : FuncType
 main_type = takes_and_gives [] (Some I64)
 
-six_typed : IsTypedBody (body_context (context_of alone) main_type six) (w.I64Const 6 ∷ [])
+six_typed : IsTypedBody (body_context (context_of alone) main_type main_code) (w.I64Const 6 ∷ [])
 six_typed =
     more (w.I64Const 6) [] (I64 ∷ []) refl
-    (plain ([] ⇒ Some (The I64)) (ap (signature_in (body_context (context_of alone) main_type six) (Some I64 ∷ [])) six_opens) (record { at = I64; below = []; taken = refl; «left» = refl }))
+    (plain ([] ⇒ Some (The I64)) (ap (signature_in (body_context (context_of alone) main_type main_code) (Some I64 ∷ [])) six_opens) (record { at = I64; below = []; taken = refl; «left» = refl }))
     (none refl refl)
 
 six_fits : InstructionsFit (w.I64Const 6 ∷ [])
@@ -43,11 +43,11 @@ environment_typed : IsTypedEnvironment (context_of alone) (environment_of alone)
 environment_typed = record { types = refl; functions = listed; codes = typed; pages = omega arith }
   where
     listed : (n : ℕ) (ty : FuncType) → slice_get (context_of alone).functions n ≡ Some ty → (code : Option Code) × (function_at (environment_of alone) n ≡ Some (of_code ty code))
-    listed zero ty q = let same : main_type ≡ ty = (cc) in (Some six, ap (λ (t : FuncType). Some (of_code t (Some six))) same)
+    listed zero ty q = let same : main_type ≡ ty = (cc) in (Some main_code, ap (λ (t : FuncType). Some (of_code t (Some main_code))) same)
     listed (suc n) ty q = absurd (cc)
 
     typed : (n : ℕ) (f : Function) → function_at (environment_of alone) n ≡ Some f → IsTypedCode (context_of alone) f.ty f.code
-    typed zero f q = let same : of_code main_type (Some six) ≡ f = (cc) in subst (λ (g : Function). IsTypedCode (context_of alone) g.ty g.code) same (six_typed, six_fits)
+    typed zero f q = let same : of_code main_type (Some main_code) ≡ f = (cc) in subst (λ (g : Function). IsTypedCode (context_of alone) g.ty g.code) same (six_typed, six_fits)
     typed (suc n) f q = absurd (cc)
 
 store_typed : IsTypedStore (context_of alone) (environment_of alone) (first_store alone)
@@ -57,5 +57,5 @@ store_typed = record { globals = tt; table = λ i n q. absurd (cc); bytes = λ k
 pub first_is_typed : FirstIsTyped
 first_is_typed = record {
   environment = environment_typed;
-  config = entered_typed (context_of alone) (environment_of alone) environment_typed 0 main_type six [] [] TheEnd (first_store alone) refl tt refl store_typed;
+  config = entered_typed (context_of alone) (environment_of alone) environment_typed 0 main_type main_code [] [] TheEnd (first_store alone) refl tt refl store_typed;
 }

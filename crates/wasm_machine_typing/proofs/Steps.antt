@@ -9,7 +9,7 @@ use Rattle.wasm_execution.specs.Configurations.{Config, Event}
 use Rattle.wasm_execution.specs.Environments.{Environment}
 use Rattle.wasm_execution.specs.Steps.{act, step, step_at}
 use Rattle.wasm_machine_typing.specs.Configurations.{IsTypedEnvironment, IsTypedConfig, IsTypedTurn}
-use Rattle.wasm_machine_typing.specs.Laws.{EachStepGoesOn, NeverStuck, CallsAreTyped}
+use Rattle.wasm_machine_typing.specs.Laws.{EachStepGoesOn, TypedNeverStuck, CallsAreTyped}
 use Rattle.wasm_machine_typing.proofs.Plain.{plain_acts}
 use Rattle.wasm_machine_typing.proofs.Calls.{calls_direct, calls_indirect, entered_typed}
 use Rattle.wasm_machine_typing.proofs.Control.{end_reached, block_entered, loop_entered, arm_entered, either_entered, branches, branches_if, branches_by_table, returns}
@@ -49,7 +49,7 @@ module _ (C : Context) (e : Environment) (env : IsTypedEnvironment C e) where
 pub each_step_goes_on : EachStepGoesOn
 each_step_goes_on C e c env h = goes C e env c h
 
-pub never_stuck : NeverStuck
+pub never_stuck : TypedNeverStuck
 never_stuck C e c env h n q = runs_on C e env n c h q
 
 pub calls_are_typed : CallsAreTyped

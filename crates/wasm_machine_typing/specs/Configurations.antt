@@ -16,7 +16,7 @@ use Rattle.wasm_execution.specs.Types.{takes_and_gives}
 use Rattle.wasm_execution.specs.Configurations.{Here, Bottom, TheEnd, ThenCall, Store, Config, Event}
 use Rattle.wasm_execution.specs.Environments.{Environment, Function, function_at}
 use Rattle.wasm_machine_typing.specs.Values.{AreOf}
-use Rattle.wasm_machine_typing.specs.Lists.{beneath, Runs, AreOpen}
+use Rattle.wasm_machine_typing.specs.Lists.{count_beneath, Runs, AreOpen}
 
 -- a function of this type and code
 abbrev pub of_code : FuncType → Option Code → Function
@@ -54,7 +54,7 @@ module _ (C : Context) (e : Environment) where
     pub locals : AreOf (body_context C ty code).locals here.locals
     pub labels : Labels
     pub result : Option ValTy
-    pub runs : Runs (body_context C ty code) (height_of (body_context C ty code) code.body) labels here.rest here.operands (beneath here.levels) result
+    pub runs : Runs (body_context C ty code) (height_of (body_context C ty code) code.body) labels here.rest here.operands (count_beneath here.levels) result
     pub open_lists : AreOpen (body_context C ty code) (height_of (body_context C ty code) code.body) here.levels labels result
 
   -- what follows the first call, which gives this: `main` gives an i64, and a start function nothing
@@ -63,17 +63,17 @@ module _ (C : Context) (e : Environment) where
   IsTypedBottom result (ThenCall n) = (result ≡ None) × ((code : Code) × (function_at e n ≡ Some (of_code (takes_and_gives [] (Some I64)) (Some code))))
 
   -- the calls that wait, the innermost for this result
-  abbrev pub AreWaiting : Option ValTy → List Here → Bottom → Type 0
-  AreWaiting result [] bottom = IsTypedBottom result bottom
-  AreWaiting result (caller ∷ callers) bottom =
+  abbrev pub AreTypedCallers : Option ValTy → List Here → Bottom → Type 0
+  AreTypedCallers result [] bottom = IsTypedBottom result bottom
+  AreTypedCallers result (caller ∷ callers) bottom =
       (ty : FuncType) × (code : Code) × ((vs : List ℕ) → AreOf (option_to_list result) vs → IsTypedCall ty code (record caller { operands = vs ++ caller.operands }))
-      × AreWaiting ty.result callers bottom
+      × AreTypedCallers ty.result callers bottom
 
   pub record IsTypedConfig (c : Config) : Type 0 where
     pub ty : FuncType
     pub code : Code
     pub call : IsTypedCall ty code c.here
-    pub waiting : AreWaiting ty.result c.callers c.bottom
+    pub waiting : AreTypedCallers ty.result c.callers c.bottom
     pub store : IsTypedStore c.store
 
   -- a step leads to a typed configuration, or the run is over; it is never stuck

@@ -14,8 +14,8 @@ use Rattle.wasm_execution.specs.Environments.{Environment, function_at}
 use Rattle.wasm_execution.specs.Calls.{entered}
 use Rattle.wasm_execution.specs.Steps.{step}
 use Rattle.wasm_machine_typing.specs.Values.{AreOf}
-use Rattle.wasm_machine_typing.specs.Lists.{beneath}
-use Rattle.wasm_machine_typing.specs.Configurations.{of_code, IsTypedEnvironment, IsTypedStore, AreWaiting, IsTypedConfig, IsTypedTurn}
+use Rattle.wasm_machine_typing.specs.Lists.{count_beneath}
+use Rattle.wasm_machine_typing.specs.Configurations.{of_code, IsTypedEnvironment, IsTypedStore, AreTypedCallers, IsTypedConfig, IsTypedTurn}
 
 -- instructions that neither open a list nor leave one, nor call
 abbrev pub StaysInList : {A : Type 0} → Operation A → Type 0
@@ -44,18 +44,18 @@ abbrev pub EachStepGoesOn : Type 0
 EachStepGoesOn = (C : Context) (e : Environment) (c : Config) → IsTypedEnvironment C e → IsTypedConfig C e c → IsTypedTurn C e (step e c)
 
 -- after no number of steps is a run from a typed configuration stuck
-abbrev pub NeverStuck : Type 0
-NeverStuck = (C : Context) (e : Environment) (c : Config) → IsTypedEnvironment C e → IsTypedConfig C e c → (n : ℕ) → (reached (step e) n c).stand ≢ Stuck
+abbrev pub TypedNeverStuck : Type 0
+TypedNeverStuck = (C : Context) (e : Environment) (c : Config) → IsTypedEnvironment C e → IsTypedConfig C e c → (n : ℕ) → (reached (step e) n c).stand ≢ Stuck
 
 -- the call of a function of the module, with its arguments, over typed calls that wait and a typed store, is typed
 abbrev pub CallsAreTyped : Type 0
 CallsAreTyped =
     (C : Context) (e : Environment) → IsTypedEnvironment C e → (n : ℕ) (ty : FuncType) (code : Code) (arguments : List ℕ) (callers : List Here) (bottom : Bottom) (s : Store)
-    → function_at e n ≡ Some (of_code ty (Some code)) → AreOf (reverse ty.params) arguments → AreWaiting C e ty.result callers bottom → IsTypedStore C e s
+    → function_at e n ≡ Some (of_code ty (Some code)) → AreOf (reverse ty.params) arguments → AreTypedCallers C e ty.result callers bottom → IsTypedStore C e s
     → IsTypedConfig C e (entered n code arguments callers bottom s)
 
 -- the operands of the call that runs are within the height of its code
 abbrev pub StandsWithin : Type 0
 StandsWithin =
     (C : Context) (e : Environment) (c : Config) (h : IsTypedConfig C e c)
-    → length c.here.operands + beneath c.here.levels ≤ height_of (body_context C h.ty h.code) h.code.body
+    → length c.here.operands + count_beneath c.here.levels ≤ height_of (body_context C h.ty h.code) h.code.body

@@ -11,10 +11,10 @@ use Rattle.wasm_execution.specs.Types.{results_of}
 use Rattle.wasm_execution.specs.Configurations.{Aim, Past, Back, Level}
 use Rattle.wasm_machine_typing.specs.Values.{AreOf}
 
--- how many operands stand beneath a list
-abbrev pub beneath : List Level → ℕ
-beneath [] = 0
-beneath (l ∷ ls) = length l.beneath + beneath ls
+-- how many operands stand beneath the innermost list
+abbrev pub count_beneath : List Level → ℕ
+count_beneath [] = 0
+count_beneath (l ∷ ls) = length l.beneath + count_beneath ls
 
 module _ (C : Context) (room : ℕ) where
   -- what is left of a list, over these operands and so many beneath them, where the list gives this result
@@ -26,14 +26,14 @@ module _ (C : Context) (room : ℕ) where
     pub fits : (met_list (met_of C) rest ls (length operands + under)).most ≤ room
 
   -- where a branch to a list leads: past its end with what it gives, or to its start with nothing
-  abbrev pub Leads : Aim → Labels → ℕ → Option ValTy → Option ValTy → Type 0
-  Leads Past ls under label result = label ≡ result
-  Leads (Back body) ls under label result = (label ≡ None) × Runs (None ∷ ls) body [] under result
+  abbrev pub IsTypedAim : Aim → Labels → ℕ → Option ValTy → Option ValTy → Type 0
+  IsTypedAim Past ls under label result = label ≡ result
+  IsTypedAim (Back body) ls under label result = (label ≡ None) × Runs (None ∷ ls) body [] under result
 
   -- the open lists, whose labels these are, and of which the innermost gives this result; the last label is that of the body
   abbrev pub AreOpen : List Level → Labels → Option ValTy → Type 0
   AreOpen [] ls result = (ls ≡ C.result ∷ []) × (result ≡ C.result)
   AreOpen (l ∷ levels) [] result = ⊥
   AreOpen (l ∷ levels) (label ∷ ls) result =
-      (outer : Option ValTy) × (l.takes ≡ results_of label) × (l.gives ≡ results_of result) × Leads l.aim ls (length l.beneath + beneath levels) label result
-      × ((vs : List ℕ) → AreOf (option_to_list result) vs → Runs ls l.rest (vs ++ l.beneath) (beneath levels) outer) × AreOpen levels ls outer
+      (outer : Option ValTy) × (l.takes ≡ results_of label) × (l.gives ≡ results_of result) × IsTypedAim l.aim ls (length l.beneath + count_beneath levels) label result
+      × ((vs : List ℕ) → AreOf (option_to_list result) vs → Runs ls l.rest (vs ++ l.beneath) (count_beneath levels) outer) × AreOpen levels ls outer

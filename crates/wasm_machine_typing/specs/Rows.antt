@@ -11,9 +11,9 @@ use Rattle.wasm_execution.specs.ControlRows.{alone}
 use Rattle.wasm_machine_typing.specs.Configurations.{IsTypedEnvironment, IsTypedConfig}
 
 -- the code of the one function of `alone`, which gives 6
-abbrev pub six : Code
-six = record { locals = []; body = w.I64Const 6 ∷ [] }
+abbrev pub main_code : Code
+main_code = record { locals = []; body = w.I64Const 6 ∷ [] }
 
 pub record FirstIsTyped : Type 0 where
   pub environment : IsTypedEnvironment (context_of alone) (environment_of alone)
-  pub config : IsTypedConfig (context_of alone) (environment_of alone) (entered 0 six [] [] TheEnd (first_store alone))
+  pub config : IsTypedConfig (context_of alone) (environment_of alone) (entered 0 main_code [] [] TheEnd (first_store alone))

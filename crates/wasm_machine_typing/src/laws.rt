@@ -1,4 +1,4 @@
-ghost use Rattle.wasm_machine_typing.specs.Laws.{CallsAreTyped, EachStepGoesOn, NeverStuck, PlainGoesOn, StandsWithin};
+ghost use Rattle.wasm_machine_typing.specs.Laws.{CallsAreTyped, EachStepGoesOn, TypedNeverStuck, PlainGoesOn, StandsWithin};
 ghost use Rattle.wasm_machine_typing.specs.Rows.{FirstIsTyped};
 
 /// A law: a plain instruction of a typed configuration has a step, to a typed configuration or to a trap, and the operands
@@ -13,7 +13,7 @@ pub fn plain_instructions_go_on()
 pub fn typed_configurations_go_on()
     ensures begins { CallsAreTyped }
     ensures step { EachStepGoesOn }
-    ensures stuck { NeverStuck }
+    ensures stuck { TypedNeverStuck }
 {}
 
 /// Row: the first configuration of a module of one function that gives 6 is typed.

@@ -1,10 +1,10 @@
 -- Valid modules that start (WebAssembly Core Specification 1.0, sections 4.5.4 and A.5, "soundness").
-use Rattle.std.specs.Prelude.{◌≡◌, ◌≢◌, ℕ}
+use Rattle.std.specs.Prelude.{◌≡◌}
 use Rattle.wasm_ast.specs.declared.modules.WModule.{WModule}
 use Rattle.wasm_grammar.specs.Profile.{IsInProfile}
 use Rattle.wasm_typing.specs.Contexts.{context_of}
 use Rattle.wasm_typing.specs.Modules.{IsValid}
-use Rattle.machine_steps.specs.Steps.{Stuck}
+use Rattle.machine_steps.specs.Ending.{NeverStuck}
 use Rattle.wasm_execution.specs.Configurations.{Config}
 use Rattle.wasm_execution.specs.Environments.{environment_of}
 use Rattle.wasm_execution.specs.Starts.{Begins, start_of}
@@ -21,4 +21,4 @@ ValidStartsTyped = (m : WModule) (c : Config) → IsValid m → IsInProfile m �
 
 -- a valid module of the profile that starts is stuck after no number of steps
 abbrev pub ValidNeverStuck : Type 0
-ValidNeverStuck = (m : WModule) (c : Config) → IsValid m → IsInProfile m → start_of m ≡ Begins c → (n : ℕ) → (wasm m n).stand ≢ Stuck
+ValidNeverStuck = (m : WModule) (c : Config) → IsValid m → IsInProfile m → start_of m ≡ Begins c → NeverStuck (wasm m)
