@@ -104,7 +104,7 @@ module _ (C : Context) (e : Environment) (env : IsTypedEnvironment C e) where
 
     ended : (vs : List ℕ) → AreOf (I64 ∷ []) vs → Good (ends_with vs c)
     ended [] k = absurd k
-    ended (v ∷ []) k = tt
+    ended (v ∷ []) k = h
     ended (v ∷ (w ∷ vs)) k = absurd k.1
 
     at_bottom : (vs : List ℕ) (result : Option ValTy) (bottom : Bottom) → AreOf (option_to_list result) vs → IsTypedBottom C e result bottom → Good (give e vs [] bottom c)
@@ -185,8 +185,8 @@ module _ (C : Context) (e : Environment) (env : IsTypedEnvironment C e) where
               | Some n ↦ call_typed e type_index n (record c.here { operands = arguments ++ below; rest = rest }) c
             ]
           ])
-      entry_called type_index at ty arguments below listed values on None q = tt
-      entry_called type_index at ty arguments below listed values on (Some None) q = tt
+      entry_called type_index at ty arguments below listed values on None q = h
+      entry_called type_index at ty arguments below listed values on (Some None) q = h
       entry_called type_index at ty arguments below listed values on (Some (Some n)) q =
           let found = h.store.table at n q in
           let f = found.0 in
@@ -197,7 +197,7 @@ module _ (C : Context) (e : Environment) (env : IsTypedEnvironment C e) where
             | true ↦ λ same.
                 let p = same_type f.ty ty same in
                 called n f.ty f.code arguments below rest found.1 (subst (λ (ts : List ValTy). AreOf (reverse ts) arguments) (sym p.0) values) (subst (λ (t : Option ValTy). GoesOnWith rest below t) (sym p.1) on)
-            | false ↦ λ _. tt
+            | false ↦ λ _. h
           ] refl))
 
       pub calls_indirect : (type_index : ℕ) → operation_in (out-WInstr i) ≡ op.CallIndirect type_index → Good (call_indirect e type_index (record c.here { rest = rest }) c)

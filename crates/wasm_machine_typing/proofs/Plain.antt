@@ -1,6 +1,6 @@
 -- Each plain instruction of a typed configuration goes on, or traps.
 use Rattle.std.proofs.Common.{◌≡◌, ◌∙◌, ℕ, zero, suc, ◌+◌, ◌-◌, ◌*◌, ◌^◌, ◌<◌, ◌≤◌, Bool, true, false, List, [], ◌∷◌, ◌++◌, length, slice_get, slice_set, refl, sym, ap, subst, arith}
-use Rattle.std.specs.Prelude.{Some, None, Ok, Err, option_map, nat_le, nat_lt, ◌==◌, if◌then◌else◌}
+use Rattle.std.specs.Prelude.{Option, Some, None, Ok, Err, option_map, nat_le, nat_lt, ◌==◌, if◌then◌else◌}
 use Rattle.std.proofs.lemmas.Bool.{leb-true}
 use Rattle.std.proofs.lemmas.List.{length-append}
 use Rattle.std.proofs.lemmas.Option.{slice_get-map}
@@ -31,19 +31,24 @@ use Rattle.machine_steps.specs.declared.Trap.TheVariants.{MemoryBounds}
 use Rattle.machine_steps.specs.Steps.{Turn, Went, Ended}
 use Rattle.wasm_execution.specs.Types.{width_of}
 use Rattle.wasm_execution.specs.Configurations.{Config, Event}
-use Rattle.wasm_execution.specs.Environments.{Environment}
+use Rattle.wasm_execution.specs.Environments.{Environment, Function}
 use Rattle.wasm_execution.specs.Turns.{with_one, goes_on, leaves, traps}
 use Rattle.wasm_execution.specs.Numbers.{trap_of, constant, apply_binary, apply_compare}
 use Rattle.wasm_execution.specs.Variables.{chosen, drop_one, select_one, get_local, set_local, tee_local, get_global, set_global}
 use Rattle.wasm_execution.specs.Memories.{loaded, pages_of, touches, load_number, store_number, size_of_memory, grow_memory}
 use Rattle.wasm_execution.specs.Steps.{act, step_at}
 use Rattle.wasm_machine_typing.specs.Values.{AreOf}
-use Rattle.wasm_machine_typing.specs.Configurations.{global_types, IsTypedEnvironment, IsTypedStore, IsTypedConfig, IsTypedTurn}
+use Rattle.wasm_machine_typing.specs.Lists.{count_beneath}
+use Rattle.wasm_typing.specs.Heights.{height_of}
+use Rattle.wasm_typing.specs.Contexts.{body_context}
+use Rattle.wasm_ast.specs.declared.types.FuncType.{FuncType}
+use Rattle.wasm_ast.specs.declared.modules.Code.{Code}
+use Rattle.wasm_machine_typing.specs.Configurations.{of_code, global_types, IsTypedEnvironment, IsTypedStore, IsTypedConfig, IsTypedTurn}
 use Rattle.wasm_machine_typing.specs.Laws.{StaysInList, PlainGoesOn, StandsWithin}
 use Rattle.wasm_machine_typing.proofs.Values.{looked_up, put, one, two, three}
 use Rattle.wasm_machine_typing.proofs.Lists.{stands}
 use Rattle.wasm_machine_typing.proofs.Memories.{read-within, loaded-within, bytes-write, bytes-more}
-use Rattle.wasm_machine_typing.proofs.Going.{found_back, needs_back, chosen_back, plain_numbers, body, going, on_found, on_one, fits_here, has, use_of, next, next_on}
+use Rattle.wasm_machine_typing.proofs.Going.{found_back, needs_back, chosen_back, plain_numbers, body, room, going, on_found, on_one, fits_here, has, use_of, next, next_on}
 
 -- no load or store moves more bytes than a value of its type has
 pub narrow : (w : WInstr-F WInstr) → FitsItsType (operation_in w)
@@ -81,7 +86,7 @@ module _ (C : Context) (e : Environment) (env : IsTypedEnvironment C e) (c : Con
   accessed : (b : Bool) (function address count : ℕ) (after : Config) → (b ≡ true → IsTypedConfig C e after)
       → IsTypedTurn C e (elim b [ true ↦ Went (touches e function address count) after | false ↦ Ended (touches e function address count) (Trap MemoryBounds) c ])
   accessed true function address count after k = k refl
-  accessed false function address count after k = tt
+  accessed false function address count after k = h
 
   few_pages : pages_of c.store.memory ≤ 65536
   few_pages = let w = h.store.whole in let m = h.store.most in omega (arith, w, m)
@@ -295,7 +300,7 @@ module _ (C : Context) (e : Environment) (env : IsTypedEnvironment C e) (c : Con
         subst (λ (os : List ℕ). Good (apply_binary t operator (record c.here { operands = os; rest = rest }) c)) (sym p.2)
         (elim (binary operator w p.1 p.0) as (λ r. (binary operator w p.1 p.0 ≡ r) → Good (elim r [ Ok n ↦ leaves (n ∷ x.below) (record c.here { rest = rest }) c | Err why ↦ traps (trap_of why) c ])) [
           | Ok n ↦ λ is. next C e c h i rest er slots (Some (The t)) x (n ∷ []) (stays_within.of_two operator w p.1 p.0 n p.4 p.3 is, tt)
-          | Err why ↦ λ _. tt
+          | Err why ↦ λ _. h
         ] refl)
 
     pub plain_acts : (o : Operation WInstr) → Is o → StaysInList o → Good (act e o (record c.here { rest = rest }) c)
@@ -335,5 +340,12 @@ module _ (C : Context) (e : Environment) (env : IsTypedEnvironment C e) (c : Con
 pub plain_goes_on : PlainGoesOn
 plain_goes_on C e c i rest env h er s = subst (λ (r : List WInstr). IsTypedTurn C e (step_at e r c)) (sym er) (plain_acts C e env c h i rest er (operation_in (out-WInstr i)) refl s)
 
+same_function : (ty u : FuncType) (code d : Code) → ◌≡◌ {A = Option Function} (Some (of_code ty (Some code))) (Some (of_code u (Some d))) → (ty ≡ u) × (code ≡ d)
+same_function ty u code d q = let f : of_code ty (Some code) ≡ of_code u (Some d) = (cc) in let k : ◌≡◌ {A = Option Code} (Some code) (Some d) = ap (λ (x : Function). x.code) f in (ap (λ (x : Function). x.ty) f, (cc))
+
 pub stands_within : StandsWithin
-stands_within C e c h = stands (body C e c h) _ h.call.labels c.here.rest c.here.operands _ h.call.result h.call.runs
+stands_within C e c h ty code there =
+    let p = same_function h.ty ty h.code code (sym h.call.there ∙ there) in
+    let stood = stands (body C e c h) (room C e c h) h.call.labels c.here.rest c.here.operands (count_beneath c.here.levels) h.call.result h.call.runs in
+    let n = length c.here.operands + count_beneath c.here.levels in
+    subst (λ (t : FuncType). n ≤ height_of (body_context C t code) code.body) p.0 (subst (λ (d : Code). n ≤ height_of (body_context C h.ty d) d.body) p.1 stood)

@@ -76,8 +76,8 @@ module _ (C : Context) (e : Environment) where
     pub waiting : AreTypedCallers ty.result c.callers c.bottom
     pub store : IsTypedStore c.store
 
-  -- a step leads to a typed configuration, or the run is over; it is never stuck
+  -- a step leads to a typed configuration, or the run is over at one; it is never stuck
   abbrev pub IsTypedTurn : Turn Event Config → Type 0
   IsTypedTurn (Went es c) = IsTypedConfig c
-  IsTypedTurn (Ended es end c) = Unit {0}
+  IsTypedTurn (Ended es end c) = IsTypedConfig c
   IsTypedTurn NoStep = ⊥

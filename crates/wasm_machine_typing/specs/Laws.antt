@@ -54,8 +54,14 @@ CallsAreTyped =
     → function_at e n ≡ Some (of_code ty (Some code)) → AreOf (reverse ty.params) arguments → AreTypedCallers C e ty.result callers bottom → IsTypedStore C e s
     → IsTypedConfig C e (entered n code arguments callers bottom s)
 
--- the operands of the call that runs are within the height of its code
+-- after any number of steps a run from a typed configuration is at a typed one
+abbrev pub StaysTyped : Type 0
+StaysTyped = (C : Context) (e : Environment) (c : Config) → IsTypedEnvironment C e → IsTypedConfig C e c → (n : ℕ) → IsTypedConfig C e (reached (step e) n c).at
+
+-- the operands of the call that runs, in all its lists, are within the height of its function's code
+abbrev pub IsWithinHeight : Context → Environment → Config → Type 0
+IsWithinHeight C e c = (ty : FuncType) (code : Code) → function_at e c.here.function ≡ Some (of_code ty (Some code))
+    → length c.here.operands + count_beneath c.here.levels ≤ height_of (body_context C ty code) code.body
+
 abbrev pub StandsWithin : Type 0
-StandsWithin =
-    (C : Context) (e : Environment) (c : Config) (h : IsTypedConfig C e c)
-    → length c.here.operands + count_beneath c.here.levels ≤ height_of (body_context C h.ty h.code) h.code.body
+StandsWithin = (C : Context) (e : Environment) (c : Config) → IsTypedConfig C e c → IsWithinHeight C e c

@@ -16,8 +16,11 @@ use Rattle.wasm_execution.specs.Calls.{entered}
 use Rattle.wasm_execution.specs.Behaviour.{seen_from}
 use Rattle.wasm_machine_typing.specs.Configurations.{of_code, IsTypedEnvironment, IsTypedConfig}
 use Rattle.wasm_machine_typing.proofs.Calls.{same_type, entered_typed}
-use Rattle.wasm_machine_typing.proofs.Steps.{runs_on}
-use Rattle.wasm_soundness.specs.Laws.{ValidStartsTyped, ValidNeverStuck}
+use Rattle.wasm_machine_typing.proofs.Steps.{runs_on, stays}
+use Rattle.wasm_machine_typing.proofs.Plain.{stands_within}
+use Rattle.machine_steps.specs.Steps.{reached}
+use Rattle.wasm_execution.specs.Steps.{step}
+use Rattle.wasm_soundness.specs.Laws.{ValidStartsTyped, ValidNeverStuck, ValidStandsWithin}
 use Rattle.wasm_soundness.proofs.Functions.{are_prints, environment_typed}
 use Rattle.wasm_soundness.proofs.Stores.{store_typed}
 
@@ -88,3 +91,8 @@ pub valid_never_stuck : ValidNeverStuck
 valid_never_stuck m c valid profile q n stuck =
     let s = valid_starts_typed m c valid profile q in
     runs_on (context_of m) (environment_of m) s.environment n c s.config (ap (λ (x : Start). (seen_from m n x).stand) (sym q) ∙ stuck)
+
+pub valid_stands_within : ValidStandsWithin
+valid_stands_within m c valid profile q n =
+    let s = valid_starts_typed m c valid profile q in
+    stands_within (context_of m) (environment_of m) (reached (step (environment_of m)) n c).at (stays (context_of m) (environment_of m) s.environment n c s.config)

@@ -3,10 +3,12 @@
 //! Typed configurations are those of `wasm_machine_typing`.
 #![tactic(auto)]
 
-ghost use Rattle.wasm_soundness.specs.Laws.{ValidNeverStuck, ValidStartsTyped};
+ghost use Rattle.wasm_soundness.specs.Laws.{ValidNeverStuck, ValidStandsWithin, ValidStartsTyped};
 
-/// A law: what a valid module of the profile starts with is typed, and after no number of steps is it stuck.
+/// A law: what a valid module of the profile starts with is typed; after no number of steps is it stuck, and at
+/// each configuration the operands are within the height of the code of the function that runs.
 pub fn valid_modules_run()
     ensures starts { ValidStartsTyped }
     ensures stuck { ValidNeverStuck }
+    ensures room { ValidStandsWithin }
 {}
