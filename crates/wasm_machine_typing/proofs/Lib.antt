@@ -1,0 +1,10 @@
+pub mod Values
+pub mod Lists
+pub mod Memories
+pub mod Going
+pub mod Plain
+pub mod Calls
+pub mod Entering
+pub mod Control
+pub mod Steps
+pub mod Rows

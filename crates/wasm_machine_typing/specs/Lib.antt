@@ -1,0 +1,5 @@
+pub mod Values
+pub mod Lists
+pub mod Configurations
+pub mod Laws
+pub mod Rows
