@@ -3,9 +3,9 @@
 //! over the rules of `wasm_typing`.
 #![tactic(auto)]
 
-mod constants;
 mod error;
 mod exports;
+mod globals;
 mod imports;
 mod limits;
 mod section;

@@ -6,9 +6,9 @@ ghost use Rattle.wasm_typing.specs.Fields.{segment_rule};
 ghost use Rattle.wasm_fields.specs.Answers.{Tells};
 ghost use Rattle.wasm_fields.specs.Sections.{section_fault};
 
-use crate::constants::check_globals;
 use crate::error::FieldError;
 use crate::exports::{check_exports, check_start};
+use crate::globals::check_globals;
 use crate::imports::check_imports;
 use crate::limits::{check_memories, check_tables};
 use crate::section::Section;

@@ -4,9 +4,9 @@ ghost use Rattle.wasm_typing.specs.Fields.{function_rule, functions_rule, elemen
 ghost use Rattle.wasm_typing.specs.Modules.{first_alone};
 ghost use Rattle.wasm_fields.specs.Answers.{Tells};
 
-use crate::constants::{constant_form, constant_index, constant_type};
 use crate::error::FieldError;
 use wasm_ast::{DataSeg, ElemSeg, ValTy};
+use wasm_constants::{constant_form, constant_index, constant_type};
 use wasm_typing::{Context, WRule};
 
 /// The functions, by the indices of their types.

@@ -1,14 +1,15 @@
-//! Constant expressions, and globals.
+//! Constant expressions of WebAssembly 1.0 (WebAssembly Core Specification 1.0, section 3.3.7.2): the rules that one breaks.
+//! Definitions: `constant_index`, `constant_form` and `constant_type` of `wasm_typing`, which each call answers exactly.
+//! They stand in a crate of their own, since a match over all instructions takes long to prove.
+#![tactic(auto)]
+
 ghost use Rattle.std.specs.Prelude.{◌≡◌, ◌<◌, length, None, Some};
 ghost use Rattle.wasm_ast.specs.declared.instructions.WInstr.{out-WInstr};
 ghost use Rattle.wasm_typing.specs.Signatures.{same_type};
-ghost use Rattle.wasm_typing.specs.Fields.{breaks_unless, constant_index, constant_form, constant_type, global_rule};
-ghost use Rattle.wasm_typing.specs.Modules.{first_alone};
+ghost use Rattle.wasm_typing.specs.Fields.{breaks_unless, constant_index, constant_form, constant_type};
 ghost use Rattle.wasm_typing.specs.declared.rule.WRule.TheVariants.{EndOperands};
-ghost use Rattle.wasm_fields.specs.Answers.{Tells};
 
-use crate::error::FieldError;
-use wasm_ast::{OperationRef, ValTy, WGlobal, WInstr};
+use wasm_ast::{OperationRef, ValTy, WInstr};
 use wasm_typing::{GlobalType, WRule};
 
 /// `GlobalIndex` where a constant expression reads a global that is not there.
@@ -58,25 +59,4 @@ pub fn constant_type(globals: &[GlobalType], t: ValTy, init: &WInstr) -> Option<
         },
         _ => None,
     }
-}
-
-/// The rule that a global breaks, whose initial value may read these globals.
-fn global_rule(globals: &[GlobalType], g: &WGlobal) -> Option<WRule>
-    ensures { result ≡ global_rule globals.now g.now }
-{
-    constant_index(globals, &g.init)
-        .or(constant_form(globals, &g.init))
-        .or(constant_type(globals, g.ty, &g.init))
-}
-
-/// The globals, whose initial values may read these globals.
-pub fn check_globals(imported: &[GlobalType], globals: &[WGlobal]) -> Result<(), FieldError>
-    ensures { Tells (first_alone (global_rule imported.now) globals.now) result }
-{
-    for (at, g) in globals.iter().enumerate() {
-        if let Some(rule) = global_rule(imported, g) {
-            return Err(FieldError::Invalid { at, rule });
-        }
-    }
-    Ok(())
 }

@@ -1,7 +1,7 @@
 use Rattle.std.proofs.Common.{◌∙◌, ◌<◌, length, sym, arith}
 use Rattle.wasm_typing.specs.Fields.{global_rule}
 use Rattle.wasm_fields.proofs.Firsts.{fault_at, fault_behind, none_left}
-use Rattle.wasm_fields.proofs.constants.check_globals.Goals as goal
+use Rattle.wasm_fields.proofs.globals.check_globals.Goals as goal
 
 pub returns-in-Some : goal.returns-in-Some
 returns-in-Some c =
