@@ -34,7 +34,7 @@ use Rattle.wasm_execution.specs.Configurations as wc
 use Rattle.wasm_execution.specs.Environments.{Environment, environment_of}
 use Rattle.wasm_execution.specs.Starts.{first_store}
 use Rattle.wasm_execution.specs.Steps as ws
-use Rattle.wasm_execution.specs.Turns.{with_found}
+use Rattle.machine_steps.specs.Steps.{with_found}
 use Rattle.lowering_laws.proofs.Locals.{Stored}
 use Rattle.lowering_laws.proofs.Values.{call_with, in_call}
 use Rattle.lowering_laws.proofs.Walks.{acts}

@@ -5,7 +5,8 @@ use Rattle.std.specs.Prelude.{slice_get, if◌then◌else◌}
 use Rattle.std.proofs.lemmas.Bool.{cases_lt}
 use Rattle.std.proofs.lemmas.Option.{same_Some, none-some, slice_get_within}
 use Rattle.wasm_ast.specs.declared.types.FuncType.{FuncType}
-use Rattle.lowering_table.specs.TypeUses.{is_same_type, is_among, first_uses, type_index}
+use Rattle.lowering_table.specs.TypeUses.{is_among, first_uses, type_index}
+use Rattle.wasm_ast.specs.SameTypes.{is_same_type}
 use Rattle.lowering_table.proofs.SameTypes.{type_itself}
 use Rattle.lowering_table.proofs.TypePlaces.{Stands, among_has, pushed_cases, pushed_has, uses_by}
 

@@ -4,7 +4,8 @@ use Rattle.std.specs.Prelude.{slice_get, if◌then◌else◌}
 use Rattle.std.proofs.lemmas.Bool.{cond_both}
 use Rattle.std.proofs.lemmas.Option.{same_Some, none-some}
 use Rattle.wasm_ast.specs.declared.types.FuncType.{FuncType}
-use Rattle.lowering_table.specs.TypeUses.{is_same_type, is_among, first_uses, type_index}
+use Rattle.lowering_table.specs.TypeUses.{is_among, first_uses, type_index}
+use Rattle.wasm_ast.specs.SameTypes.{is_same_type}
 use Rattle.lowering_table.proofs.SameTypes.{same_type, type_itself}
 
 -- the type stands at its index

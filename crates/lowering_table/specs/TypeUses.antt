@@ -1,30 +1,9 @@
 -- Function types in the order of their first use, equal ones once. This project's own.
 use Rattle.std.specs.Prelude.{ℕ, suc, Bool, true, false, ◌&&◌, if◌then◌else◌, List, [], ◌∷◌, ◌++◌, Option, Some, None}
+use Rattle.wasm_ast.specs.SameTypes.{is_same_type}
 use Rattle.wasm_ast.specs.declared.types.ValTy.{ValTy}
 use Rattle.wasm_ast.specs.declared.types.ValTy.TheVariants.{I32, I64}
 use Rattle.wasm_ast.specs.declared.types.FuncType.{FuncType}
-
-abbrev pub is_same_value : ValTy → ValTy → Bool
-is_same_value I32 I32 = true
-is_same_value I64 I64 = true
-is_same_value I32 I64 = false
-is_same_value I64 I32 = false
-
-abbrev pub are_same_values : List ValTy → List ValTy → Bool
-are_same_values [] [] = true
-are_same_values (t ∷ ts) (u ∷ us) = is_same_value t u && are_same_values ts us
-are_same_values [] (u ∷ us) = false
-are_same_values (t ∷ ts) [] = false
-
-abbrev pub is_same_result : Option ValTy → Option ValTy → Bool
-is_same_result None None = true
-is_same_result (Some a) (Some b) = is_same_value a b
-is_same_result None (Some b) = false
-is_same_result (Some a) None = false
-
--- equal function types
-abbrev pub is_same_type : FuncType → FuncType → Bool
-is_same_type a b = are_same_values a.params b.params && is_same_result a.result b.result
 
 abbrev pub is_among : FuncType → List FuncType → Bool
 is_among t [] = false

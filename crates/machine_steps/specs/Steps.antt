@@ -53,3 +53,22 @@ abbrev pub with_top : {V E A : Type 0} → ℕ → List V → (List V → List V
 with_top zero vs then = then [] vs
 with_top (suc n) [] then = NoStep
 with_top (suc n) (v ∷ vs) then = with_top n vs (λ taken beneath. then (v ∷ taken) beneath)
+
+-- what follows a look-up that found something
+abbrev pub with_found : {X E A : Type 0} → Option X → (X → Turn E A) → Turn E A
+with_found None then = NoStep
+with_found (Some x) then = then x
+
+-- what follows from the top operand and those beneath it
+abbrev pub with_one : {V E A : Type 0} → List V → (V → List V → Turn E A) → Turn E A
+with_one [] then = NoStep
+with_one (v ∷ vs) then = then v vs
+
+-- what follows where nothing is left over
+abbrev pub with_none : {V E A : Type 0} → List V → Turn E A → Turn E A
+with_none [] then = then
+with_none (v ∷ vs) then = NoStep
+
+-- what follows from exactly so many operands
+abbrev pub with_all : {V E A : Type 0} → ℕ → List V → (List V → Turn E A) → Turn E A
+with_all n vs then = with_top n vs (λ taken beneath. with_none beneath (then taken))

@@ -10,7 +10,8 @@ use Rattle.rw_program.specs.declared.linked.LinkedFunc.{LinkedFunc}
 use Rattle.machine_steps.specs.declared.End.TheVariants.{Value}
 use Rattle.machine_steps.specs.Steps.{Turn, Went, Ended, NoStep, with_top}
 use Rattle.rich_reduction.specs.Configurations.{Val, Number, Empty, Aim, Past, Level, Here, Config, Event, Print}
-use Rattle.rich_reduction.specs.Turns.{with_found, with_one, with_number, with_all, goes_on, leaves}
+use Rattle.rich_reduction.specs.Turns.{with_number, goes_on, leaves}
+use Rattle.machine_steps.specs.Steps.{with_found, with_one, with_all}
 
 -- a list of this signature is entered with these operands; a branch to it leads so and takes so many
 abbrev pub enter : Aim → ℕ → BlockSig → List i.Instr → List Val → List Val → Here → Config → Turn Event Config

@@ -1,4 +1,5 @@
-//! What a linked program does when it runs: definitions, and rows that are computed.
+//! What a linked program does when it runs (this project's own): configurations, and a step. It is definitions, and rows that
+//! are computed.
 #![tactic(auto)]
 
 ghost use Rattle.rich_reduction.specs.Rows.{AddingTakes, DropStopsShort, DroppingTakes, GlobalsAreSet, GlobalsTake, InitialiserStopsShort, LeftOverStopsShort, PrintingTakes};

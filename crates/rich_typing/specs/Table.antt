@@ -24,14 +24,14 @@ need true broken found expected rest = rest
 need false broken found expected rest = Breaks broken found expected
 
 -- what the top operand and those beneath it give
-abbrev pub with_top : List Ty → (Ty → List Ty → Outcome) → Outcome
-with_top [] then = Breaks rule.Operands None None
-with_top (t ∷ beneath) then = then t beneath
+abbrev pub with_operand : List Ty → (Ty → List Ty → Outcome) → Outcome
+with_operand [] then = Breaks rule.Operands None None
+with_operand (t ∷ beneath) then = then t beneath
 
 -- what the top operand, the one under it and those beneath both give
-abbrev pub with_top_two : List Ty → (Ty → Ty → List Ty → Outcome) → Outcome
-with_top_two (t ∷ u ∷ beneath) then = then t u beneath
-with_top_two operands then = Breaks rule.Operands None None
+abbrev pub with_two_operands : List Ty → (Ty → Ty → List Ty → Outcome) → Outcome
+with_two_operands (t ∷ u ∷ beneath) then = then t u beneath
+with_two_operands operands then = Breaks rule.Operands None None
 
 -- the type of a number of 64 bits
 abbrev pub unr_i64 : Ty
@@ -49,9 +49,9 @@ i64_form t rest = Breaks rule.OperandType (Some t) (Some unr_i64)
 -- the table
 abbrev pub row : List Binder → Instr → List Ty → Outcome
 row binders (I64Const n) operands = Gives (unr_i64 ∷ operands)
-row binders (Num I64Add) operands = with_top_two operands (λ right left beneath. i64_form left (i64_form right (Gives (unr_i64 ∷ beneath))))
-row binders Print operands = with_top operands (λ t beneath. i64_form t (Gives beneath))
-row binders Drop operands = with_top operands (λ t beneath. need (is_unr (qual_of binders t)) rule.LinearDrop (Some t) None (Gives beneath))
+row binders (Num I64Add) operands = with_two_operands operands (λ right left beneath. i64_form left (i64_form right (Gives (unr_i64 ∷ beneath))))
+row binders Print operands = with_operand operands (λ t beneath. i64_form t (Gives beneath))
+row binders Drop operands = with_operand operands (λ t beneath. need (is_unr (qual_of binders t)) rule.LinearDrop (Some t) None (Gives beneath))
 row binders _ operands = Breaks rule.NotYetBuilt None None
 
 -- how many operands an instruction takes

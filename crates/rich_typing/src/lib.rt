@@ -1,4 +1,5 @@
-//! What Rich modules mean: sizes of types, the rules of bodies, their points, and what breaks a rule.
+//! What a well-typed Rich module is (this project's own): sizes of types, the rules of bodies, their points, and what breaks a
+//! rule. Definitions, rows that are computed, and a law: a module is well typed or has one first violation.
 #![tactic(auto)]
 
 mod laws;

@@ -1,4 +1,5 @@
-//! The check of modules: a module is well typed, or its first violation is told.
+//! The check of modules: a module is well typed, or its first violation is told. The definitions are those of `rich_typing`;
+//! it has no laws.
 #![tactic(auto)]
 
 mod body;

@@ -1,4 +1,5 @@
-//! Comparison and copies of types: `same` says whether two are one tree, and a copy is the same tree.
+//! Comparison and copies of types (this project's own): `same` says whether two are one tree, and a copy is the same tree. It
+//! has no definitions and no laws.
 #![tactic(auto)]
 
 mod comparison;

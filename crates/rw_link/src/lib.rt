@@ -1,4 +1,4 @@
-//! The link of checked modules to one program.
+//! The link of checked modules to one program (this project's own). The definitions are those of `rw_program`; it has no laws.
 #![tactic(auto)]
 
 mod error;

@@ -1,4 +1,5 @@
-//! Checked modules and linked programs: values that only a check and a link make.
+//! Checked modules and linked programs (this project's own): values that only a check and a link make. Definitions: what modules
+//! link to (`specs/Linking.antt`). A law: no function and no global is lost.
 #![tactic(auto)]
 
 mod checked;

@@ -1,4 +1,5 @@
-//! The reader of Rich texts.
+//! The reader of the texts of today's modules (this project's own). Definitions: tokens, numbers, and what bytes spell
+//! (`specs/Spells.antt`). Laws: a text spells one module at most; that it spells one or none stands in `rw_text_laws`.
 #![tactic(auto)]
 
 mod body;

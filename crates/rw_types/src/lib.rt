@@ -1,4 +1,5 @@
-//! Trees of Rich modules: types, instructions, fields, and the names that they hold.
+//! Trees of Rich modules (this project's own): types, instructions, fields, and the names that they hold. Definitions: what a
+//! name is, and which modules are checked and lowered today (`specs/LoneMain.antt`). It has no laws.
 #![tactic(auto)]
 
 mod instrs;

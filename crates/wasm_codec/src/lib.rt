@@ -1,4 +1,5 @@
-//! The encoder and the decoder of the binary format of WebAssembly modules together, and the round trip.
+//! The encoder and the decoder of the binary format of WebAssembly modules together (WebAssembly Core Specification 1.0, 5).
+//! Definitions: round trips (`specs/RoundTrips.antt`). It has no laws; `round_trip` and `canonical_form` go both ways.
 #![tactic(auto)]
 
 mod canonical;

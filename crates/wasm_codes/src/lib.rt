@@ -1,4 +1,5 @@
-//! An entry of a module's code section, read a byte at a time.
+//! An entry of a module's code section, read a byte at a time (WebAssembly Core Specification 1.0, 5.5.13). Definitions: what
+//! each state still reads. A law: a state in the middle wants a byte.
 #![tactic(auto)]
 
 mod blocks;

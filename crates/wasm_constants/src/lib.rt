@@ -5,7 +5,7 @@
 
 ghost use Rattle.std.specs.Prelude.{◌≡◌, ◌<◌, length, None, Some};
 ghost use Rattle.wasm_ast.specs.declared.instructions.WInstr.{out-WInstr};
-ghost use Rattle.wasm_typing.specs.Signatures.{same_type};
+ghost use Rattle.wasm_ast.specs.SameTypes.{is_same_value_type};
 ghost use Rattle.wasm_typing.specs.Fields.{breaks_unless, constant_index, constant_form, constant_type};
 ghost use Rattle.wasm_typing.specs.declared.rule.WRule.TheVariants.{EndOperands};
 
@@ -37,7 +37,7 @@ pub fn constant_form(globals: &[GlobalType], init: &WInstr) -> Option<WRule>
 }
 
 fn type_rule(found: ValTy, wanted: ValTy) -> Option<WRule>
-    ensures { result ≡ breaks_unless (same_type found wanted) EndOperands }
+    ensures { result ≡ breaks_unless (is_same_value_type found wanted) EndOperands }
 {
     if found == wanted {
         None

@@ -1,4 +1,5 @@
-//! The contents of a WebAssembly module's sections, read a byte at a time into the module.
+//! The contents of a WebAssembly module's sections, read a byte at a time into the module (WebAssembly Core Specification 1.0,
+//! 5.5). Definitions: what each state still reads. A law: a content in the middle wants a byte.
 #![tactic(auto)]
 
 mod content;

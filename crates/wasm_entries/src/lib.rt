@@ -1,4 +1,5 @@
-//! Entries of a WebAssembly module's sections, which are read a byte at a time.
+//! Entries of a WebAssembly module's sections, read a byte at a time (WebAssembly Core Specification 1.0, 5.5). Definitions:
+//! what each state still reads. It has no laws.
 #![tactic(auto)]
 
 mod element;

@@ -6,10 +6,12 @@ use Rattle.wasm_ast.specs.declared.modules.LocalRun.{LocalRun}
 use Rattle.machine_steps.specs.declared.End.TheVariants.{Value}
 use Rattle.machine_steps.specs.declared.Trap.TheVariants.{TableBounds, Uninitialised, Signature}
 use Rattle.machine_steps.specs.Steps.{Turn, Went, Ended, NoStep, with_top}
-use Rattle.wasm_execution.specs.Types.{results_of, is_same_type}
+use Rattle.wasm_execution.specs.Types.{results_of}
+use Rattle.wasm_ast.specs.SameTypes.{is_same_type}
 use Rattle.wasm_execution.specs.Configurations.{Here, Bottom, TheEnd, ThenCall, Store, Config, Event, Print, Called, Returned}
 use Rattle.wasm_execution.specs.Environments.{Environment, Function, function_at, is_allocator}
-use Rattle.wasm_execution.specs.Turns.{with_found, with_one, with_all, first_or_zero, traps}
+use Rattle.wasm_execution.specs.Turns.{first_or_zero, traps}
+use Rattle.machine_steps.specs.Steps.{with_found, with_one, with_all}
 
 -- how many locals are declared
 abbrev pub declared : List LocalRun → ℕ

@@ -9,7 +9,8 @@ use Rattle.machine_steps.specs.Steps.{Turn, Ended, NoStep, with_top}
 use Rattle.wasm_execution.specs.Types.{results_of}
 use Rattle.wasm_execution.specs.Configurations.{Aim, Past, Back, Level, Here, Store, Config, Event, Stopped}
 use Rattle.wasm_execution.specs.Environments.{Environment}
-use Rattle.wasm_execution.specs.Turns.{with_one, with_all, goes_on, leaves}
+use Rattle.wasm_execution.specs.Turns.{goes_on, leaves}
+use Rattle.machine_steps.specs.Steps.{with_one, with_all}
 use Rattle.wasm_execution.specs.Calls.{return_now, return_at_end}
 
 -- why `unreachable` was reached, by the number in the global that tells it; this project's own

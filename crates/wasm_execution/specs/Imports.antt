@@ -6,7 +6,8 @@ use Rattle.wasm_ast.specs.declared.types.ValTy.TheVariants.{I64}
 use Rattle.wasm_ast.specs.declared.modules.Import.{Import}
 use Rattle.wasm_ast.specs.declared.modules.ImportKind.{ImportKind}
 use Rattle.wasm_ast.specs.declared.modules.ImportKind.TheVariants as import_kind
-use Rattle.wasm_execution.specs.Types.{takes_and_gives, is_same_type}
+use Rattle.wasm_execution.specs.Types.{takes_and_gives}
+use Rattle.wasm_ast.specs.SameTypes.{is_same_type}
 
 -- whether a thing is a function that takes an i64 and gives nothing
 abbrev pub prints_i64 : List FuncType → ImportKind → Bool

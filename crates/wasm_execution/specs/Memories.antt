@@ -11,7 +11,8 @@ use Rattle.machine_steps.specs.Steps.{Turn, Went, Ended}
 use Rattle.wasm_execution.specs.Types.{width_of}
 use Rattle.wasm_execution.specs.Configurations.{Here, Config, Event, Touch}
 use Rattle.wasm_execution.specs.Environments.{Environment, is_allocator}
-use Rattle.wasm_execution.specs.Turns.{with_one, with_two, leaves}
+use Rattle.wasm_execution.specs.Turns.{with_two, leaves}
+use Rattle.machine_steps.specs.Steps.{with_one}
 
 -- a number of so many bits, its sign carried on to a width (4.3.2, "extend_s")
 abbrev pub with_sign_of : ℕ → Width → ℕ → ℕ

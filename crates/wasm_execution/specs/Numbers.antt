@@ -13,7 +13,8 @@ use Rattle.machine_steps.specs.declared.Trap.TheVariants.{DivideByZero, Overflow
 use Rattle.machine_steps.specs.Steps.{Turn}
 use Rattle.wasm_execution.specs.Types.{width_of}
 use Rattle.wasm_execution.specs.Configurations.{Here, Config, Event}
-use Rattle.wasm_execution.specs.Turns.{with_one, with_two, leaves, traps}
+use Rattle.wasm_execution.specs.Turns.{with_two, leaves, traps}
+use Rattle.machine_steps.specs.Steps.{with_one}
 
 abbrev pub trap_of : NumTrap → machine.Trap
 trap_of num.DivideByZero = DivideByZero

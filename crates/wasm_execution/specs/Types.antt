@@ -17,22 +17,3 @@ results_of (Some t) = 1
 
 abbrev pub takes_and_gives : List ValTy → Option ValTy → FuncType
 takes_and_gives params result = record { params = params; result = result }
-
-abbrev pub is_same_value_type : ValTy → ValTy → Bool
-is_same_value_type I32 I32 = true
-is_same_value_type I64 I64 = true
-is_same_value_type _ _ = false
-
-abbrev pub are_same_value_types : List ValTy → List ValTy → Bool
-are_same_value_types [] [] = true
-are_same_value_types (t ∷ ts) (u ∷ us) = is_same_value_type t u && are_same_value_types ts us
-are_same_value_types _ _ = false
-
-abbrev pub is_same_result : Option ValTy → Option ValTy → Bool
-is_same_result None None = true
-is_same_result (Some t) (Some u) = is_same_value_type t u
-is_same_result _ _ = false
-
--- whether two function types are the same
-abbrev pub is_same_type : FuncType → FuncType → Bool
-is_same_type f g = are_same_value_types f.params g.params && is_same_result f.result g.result

@@ -2,7 +2,8 @@
 use Rattle.std.specs.Prelude.{ℕ, zero, suc, List, [], ◌∷◌, slice_get, slice_set}
 use Rattle.machine_steps.specs.Steps.{Turn, Went}
 use Rattle.wasm_execution.specs.Configurations.{Here, Config, Event}
-use Rattle.wasm_execution.specs.Turns.{with_found, with_one, with_two, goes_on, leaves}
+use Rattle.wasm_execution.specs.Turns.{with_two, goes_on, leaves}
+use Rattle.machine_steps.specs.Steps.{with_found, with_one}
 
 -- drop (4.4.2.1)
 abbrev pub drop_one : Here → Config → Turn Event Config

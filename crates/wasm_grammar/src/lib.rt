@@ -1,4 +1,5 @@
-//! The binary format of WebAssembly 1.0 modules, integer profile: definitions, and laws about them.
+//! The binary format of WebAssembly 1.0 modules, integer profile (WebAssembly Core Specification 1.0, 5). Definitions: the
+//! grammar, the profile, nesting, canonical bytes; a law of their layers, and rows that are computed.
 #![tactic(auto)]
 
 ghost use Rattle.std.specs.Prelude.{◌≡◌};

@@ -1,5 +1,5 @@
-//! Items of a WebAssembly module that are read a byte at a time: states, each of which takes a byte and answers a
-//! further state, a value or a fault.
+//! Items of a WebAssembly module, read a byte at a time (WebAssembly Core Specification 1.0, 5.2): states, each of which takes a
+//! byte and answers a further state, a value or a fault. Definitions: what each still reads. A law: each state wants a byte.
 #![tactic(auto)]
 
 mod bounded;

@@ -5,7 +5,8 @@ use Rattle.machine_steps.specs.Steps.{Turn, with_top}
 use Rattle.wasm_ast.specs.declared.instructions.WInstr.{WInstr}
 use Rattle.wasm_execution.specs.Configurations.{Here, Config, Event}
 use Rattle.wasm_execution.specs.Environments.{Environment}
-use Rattle.wasm_execution.specs.Turns.{with_all, goes_on}
+use Rattle.wasm_execution.specs.Turns.{goes_on}
+use Rattle.machine_steps.specs.Steps.{with_all}
 use Rattle.wasm_execution.specs.Control as machine
 use Rattle.wasm_values.specs.Stacked.{Stacked, IsCut}
 use Rattle.wasm_levels.specs.declared.row.Aim.{Aim}

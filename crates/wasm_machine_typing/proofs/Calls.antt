@@ -17,10 +17,12 @@ use Rattle.wasm_typing.specs.Typing.{fill}
 use Rattle.wasm_typing.specs.Heights.{height_of}
 use Rattle.machine_steps.specs.declared.Trap.TheVariants.{TableBounds, Uninitialised, Signature as OtherSignature}
 use Rattle.machine_steps.specs.Steps.{Turn, Went, with_top}
-use Rattle.wasm_execution.specs.Types.{results_of, is_same_type, takes_and_gives, is_same_value_type, are_same_value_types, is_same_result}
+use Rattle.wasm_execution.specs.Types.{results_of, takes_and_gives}
+use Rattle.wasm_ast.specs.SameTypes.{is_same_type, is_same_value_type, are_same_value_types, is_same_result}
 use Rattle.wasm_execution.specs.Configurations.{Here, Bottom, TheEnd, ThenCall, Store, Config, Event, Print}
 use Rattle.wasm_execution.specs.Environments.{Environment, function_at}
-use Rattle.wasm_execution.specs.Turns.{with_found, with_all, first_or_zero, traps}
+use Rattle.wasm_execution.specs.Turns.{first_or_zero, traps}
+use Rattle.machine_steps.specs.Steps.{with_found, with_all}
 use Rattle.wasm_execution.specs.Calls.{declared, entered, ends_with, calls, call, call_direct, call_typed, call_indirect, give, return_now, return_at_end}
 use Rattle.wasm_machine_typing.specs.Values.{AreOf}
 use Rattle.wasm_machine_typing.specs.Lists.{count_beneath, Runs}

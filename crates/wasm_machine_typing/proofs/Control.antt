@@ -8,14 +8,16 @@ use Rattle.wasm_ast.specs.Operations.{Operation, operation_in}
 use Rattle.wasm_ast.specs.Operations as op
 use Rattle.wasm_typing.specs.declared.rule.WRule.TheVariants.{LabelIndex, LabelTypes}
 use Rattle.wasm_typing.specs.declared.context.Context.{Context}
-use Rattle.wasm_typing.specs.Signatures.{The, Signature, ◌⇒◌, leaves, operands_of, found, needs, all_of, all_same, same_type, same_result}
+use Rattle.wasm_typing.specs.Signatures.{The, Signature, ◌⇒◌, leaves, operands_of, found, needs, all_of, all_same}
+use Rattle.wasm_ast.specs.SameTypes.{is_same_value_type, is_same_result}
 use Rattle.wasm_typing.specs.Typing.{Labels, fill, AreTyped, none, more}
 use Rattle.machine_steps.specs.Steps.{Turn, with_top}
 use Rattle.wasm_execution.specs.Types.{results_of}
 use Rattle.wasm_execution.specs.Configurations.{Aim, Past, Back, Level, Config, Event}
 use Rattle.wasm_execution.specs.Environments.{Environment}
 use Rattle.wasm_execution.specs.Turns as turns
-use Rattle.wasm_execution.specs.Turns.{with_all, goes_on}
+use Rattle.wasm_execution.specs.Turns.{goes_on}
+use Rattle.machine_steps.specs.Steps.{with_all}
 use Rattle.wasm_execution.specs.Calls.{return_now}
 use Rattle.wasm_execution.specs.Control.{enter, enter_block, enter_loop, enter_if, enter_either, arrive, branch, branch_to, branch_if, branch_table, leave}
 use Rattle.wasm_machine_typing.specs.Values.{AreOf}
@@ -26,13 +28,13 @@ use Rattle.wasm_machine_typing.proofs.Going.{found_back, needs_back, body, room,
 use Rattle.wasm_machine_typing.proofs.Calls.{and_split, first_of, top, all, results_taken, returned, returned_at_end}
 use Rattle.wasm_machine_typing.proofs.Entering.{Enters, block_enters, loop_enters, arm_enters, arms_enter}
 
-same_value : (t u : ValTy) → same_type t u ≡ true → t ≡ u
+same_value : (t u : ValTy) → is_same_value_type t u ≡ true → t ≡ u
 same_value I32 I32 q = refl
 same_value I64 I64 q = refl
 same_value I32 I64 q = absurd (cc)
 same_value I64 I32 q = absurd (cc)
 
-same_label : (t u : Option ValTy) → same_result t u ≡ true → t ≡ u
+same_label : (t u : Option ValTy) → is_same_result t u ≡ true → t ≡ u
 same_label None None q = refl
 same_label None (Some u) q = absurd (cc)
 same_label (Some t) None q = absurd (cc)
@@ -52,12 +54,12 @@ label_of : (ls : Labels) (t : Option ValTy) (labels : List ℕ) (ts : List (Opti
 label_of ls t [] ts q s at label k = absurd (cc)
 label_of ls t (l ∷ labels) ts q s zero label k =
     let p = all_back (slice_get ls l) (map (slice_get ls) labels) ts q in
-    let b = and_split (same_result p.0 t) (all_same t p.1) (subst (λ (us : List (Option ValTy)). all_same t us ≡ true) p.4 s) in
+    let b = and_split (is_same_result p.0 t) (all_same t p.1) (subst (λ (us : List (Option ValTy)). all_same t us ≡ true) p.4 s) in
     let e : l ≡ label = (cc) in
     ap (slice_get ls) (sym e) ∙ p.2 ∙ ap (λ (x : Option ValTy). Some x) (same_label p.0 t b.0)
 label_of ls t (l ∷ labels) ts q s (suc at) label k =
     let p = all_back (slice_get ls l) (map (slice_get ls) labels) ts q in
-    let b = and_split (same_result p.0 t) (all_same t p.1) (subst (λ (us : List (Option ValTy)). all_same t us ≡ true) p.4 s) in
+    let b = and_split (is_same_result p.0 t) (all_same t p.1) (subst (λ (us : List (Option ValTy)). all_same t us ≡ true) p.4 s) in
     label_of ls t labels p.1 p.3 b.1 at label k
 
 ended_types : (C : Context) (ls : Labels) (ws : List WInstr) (before after : List ValTy) → ws ≡ [] → AreTyped C ls ws before after → before ≡ after

@@ -17,7 +17,8 @@ use Rattle.wasm_typing.specs.Heights.{height_of}
 use Rattle.machine_steps.specs.Steps.{Turn}
 use Rattle.wasm_execution.specs.Configurations.{Here, Store, Config, Event}
 use Rattle.wasm_execution.specs.Environments.{Environment}
-use Rattle.wasm_execution.specs.Turns.{with_found, with_one, leaves}
+use Rattle.wasm_execution.specs.Turns.{leaves}
+use Rattle.machine_steps.specs.Steps.{with_found, with_one}
 use Rattle.wasm_machine_typing.specs.Values.{AreOf}
 use Rattle.wasm_machine_typing.specs.Lists.{count_beneath, Runs}
 use Rattle.wasm_machine_typing.specs.Configurations.{IsTypedStore, IsTypedConfig, IsTypedTurn}

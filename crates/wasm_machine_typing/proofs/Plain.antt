@@ -32,7 +32,8 @@ use Rattle.machine_steps.specs.Steps.{Turn, Went, Ended}
 use Rattle.wasm_execution.specs.Types.{width_of}
 use Rattle.wasm_execution.specs.Configurations.{Config, Event}
 use Rattle.wasm_execution.specs.Environments.{Environment, Function}
-use Rattle.wasm_execution.specs.Turns.{with_one, goes_on, leaves, traps}
+use Rattle.wasm_execution.specs.Turns.{goes_on, leaves, traps}
+use Rattle.machine_steps.specs.Steps.{with_one}
 use Rattle.wasm_execution.specs.Numbers.{trap_of, constant, apply_binary, apply_compare}
 use Rattle.wasm_execution.specs.Variables.{chosen, drop_one, select_one, get_local, set_local, tee_local, get_global, set_global}
 use Rattle.wasm_execution.specs.Memories.{loaded, pages_of, touches, load_number, store_number, size_of_memory, grow_memory}

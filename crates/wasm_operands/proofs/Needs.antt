@@ -13,15 +13,15 @@ needed-cons t ss [] false = refl
 needed-cons t ss (k ∷ ks) any =
     elim (agrees k t) as (λ b. go_on (took (if b then Some None else None) (λ now. take_slots ss now ks any)) (λ r. Ok (record { known = r.known; any = any })) ≡ go_on (go_on (took (if b then Some None else None) (λ now. take_slots [] now ks any)) (λ r. Ok (record { known = r.known; any = any }))) (needed ss)) [ true ↦ refl | false ↦ refl ]
 
-abbrev pub with_one : Option ValTy → Seen → Seen
-with_one None s = s
-with_one (Some t) s = record { known = Some t ∷ s.known; any = s.any }
+abbrev pub and_known : Option ValTy → Seen → Seen
+and_known None s = s
+and_known (Some t) s = record { known = Some t ∷ s.known; any = s.any }
 
-pub applied-gives : (ss : List Slot) (g : Option ValTy) (s : Seen) → applied (ss ⇒ option_map The g) s ≡ go_on (needed ss s) (λ now. Ok (with_one g now))
+pub applied-gives : (ss : List Slot) (g : Option ValTy) (s : Seen) → applied (ss ⇒ option_map The g) s ≡ go_on (needed ss s) (λ now. Ok (and_known g now))
 applied-gives ss None s =
-    elim (take_slots ss None s.known s.any) as (λ x. go_on x (λ r. Ok (left_of (Gives None) r s.any)) ≡ go_on (go_on x (λ r. Ok (record { known = r.known; any = s.any }))) (λ now. Ok (with_one None now))) [ Err e ↦ refl | Ok r ↦ refl ]
+    elim (take_slots ss None s.known s.any) as (λ x. go_on x (λ r. Ok (left_of (Gives None) r s.any)) ≡ go_on (go_on x (λ r. Ok (record { known = r.known; any = s.any }))) (λ now. Ok (and_known None now))) [ Err e ↦ refl | Ok r ↦ refl ]
 applied-gives ss (Some t) s =
-    elim (take_slots ss None s.known s.any) as (λ x. go_on x (λ r. Ok (left_of (Gives (Some (The t))) r s.any)) ≡ go_on (go_on x (λ r. Ok (record { known = r.known; any = s.any }))) (λ now. Ok (with_one (Some t) now))) [ Err e ↦ refl | Ok r ↦ refl ]
+    elim (take_slots ss None s.known s.any) as (λ x. go_on x (λ r. Ok (left_of (Gives (Some (The t))) r s.any)) ≡ go_on (go_on x (λ r. Ok (record { known = r.known; any = s.any }))) (λ now. Ok (and_known (Some t) now))) [ Err e ↦ refl | Ok r ↦ refl ]
 
 abbrev pub anything : Seen
 anything = record { known = []; any = true }

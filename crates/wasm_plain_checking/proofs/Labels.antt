@@ -3,7 +3,8 @@ use Rattle.std.proofs.Common.{◌≡◌, ◌∙◌, ℕ, zero, suc, ◌+◌, ◌
 use Rattle.std.specs.Prelude.{Option, Some, None, option_map}
 use Rattle.std.proofs.lemmas.List.{take_more}
 use Rattle.wasm_ast.specs.declared.types.ValTy.{ValTy}
-use Rattle.wasm_typing.specs.Signatures.{all_of, all_same, same_result}
+use Rattle.wasm_typing.specs.Signatures.{all_of, all_same}
+use Rattle.wasm_ast.specs.SameTypes.{is_same_result}
 use Rattle.wasm_typing.specs.Typing.{Labels}
 use Rattle.wasm_plain_checking.specs.Answers.{AgreeAs}
 
@@ -38,15 +39,15 @@ and_more : (b x y : Bool) → ((b && x) && y) ≡ (b && (x && y))
 and_more true x y = refl
 and_more false x y = refl
 
-all_same-more : (t : Option ValTy) (ts : List (Option ValTy)) (u : Option ValTy) → all_same t (ts ++ u ∷ []) ≡ (all_same t ts && same_result u t)
-all_same-more t [] u = and_true (same_result u t)
-all_same-more t (v ∷ ts) u = ap (λ (b : Bool). same_result v t && b) (all_same-more t ts u) ∙ sym (and_more (same_result v t) (all_same t ts) (same_result u t))
+all_same-more : (t : Option ValTy) (ts : List (Option ValTy)) (u : Option ValTy) → all_same t (ts ++ u ∷ []) ≡ (all_same t ts && is_same_result u t)
+all_same-more t [] u = and_true (is_same_result u t)
+all_same-more t (v ∷ ts) u = ap (λ (b : Bool). is_same_result v t && b) (all_same-more t ts u) ∙ sym (and_more (is_same_result v t) (all_same t ts) (is_same_result u t))
 
-pub agree-more : (ls : Labels) (xs : List ℕ) (i : ℕ) (t u : Option ValTy) (same now : Bool) → i < length xs → AgreeAs ls (take i xs) t same → slice_get ls (get_or xs i 0) ≡ Some u → now ≡ (same && same_result u t) → AgreeAs ls (take (i + 1) xs) t now
+pub agree-more : (ls : Labels) (xs : List ℕ) (i : ℕ) (t u : Option ValTy) (same now : Bool) → i < length xs → AgreeAs ls (take i xs) t same → slice_get ls (get_or xs i 0) ≡ Some u → now ≡ (same && is_same_result u t) → AgreeAs ls (take (i + 1) xs) t now
 agree-more ls xs i t u same now lt a h en =
     let m : take (i + 1) xs ≡ take i xs ++ get_or xs i 0 ∷ [] = take_more xs i 0 lt in
     record {
       types = a.types ++ u ∷ [];
       there = ap (λ (l : List ℕ). all_of (map (slice_get ls) l)) m ∙ all_of-more (slice_get ls) (take i xs) (get_or xs i 0) a.types u a.there h;
-      told = en ∙ ap (λ (b : Bool). b && same_result u t) a.told ∙ sym (all_same-more t a.types u);
+      told = en ∙ ap (λ (b : Bool). b && is_same_result u t) a.told ∙ sym (all_same-more t a.types u);
     }

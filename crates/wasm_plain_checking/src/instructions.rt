@@ -1,7 +1,8 @@
 ghost use Rattle.std.specs.Prelude.{◌&&◌, nat_lt, reverse, option_map, [], ◌≡◌, Ok, Err, OnOk, IfOk, IsErrOf, Some, None, ◌∷◌, length, slice_get, map, option_copied};
 ghost use Rattle.wasm_ast.specs.Operations as op;
 ghost use Rattle.wasm_ast.specs.OperationViews.{operation_seen};
-ghost use Rattle.wasm_typing.specs.Signatures.{all_of, all_same, same_result, The, needs, in_memory, ◌⇒◌};
+ghost use Rattle.wasm_typing.specs.Signatures.{all_of, all_same, The, needs, in_memory, ◌⇒◌};
+ghost use Rattle.wasm_ast.specs.SameTypes.{is_same_result};
 ghost use Rattle.wasm_typing.specs.declared.rule.WRule.TheVariants.{LabelIndex, MemoryIndex};
 ghost use Rattle.wasm_ast.specs.declared.types.ValTy.TheVariants.{I32};
 ghost use Rattle.wasm_operands.specs.Taking.{seen_of};
@@ -55,7 +56,7 @@ fn branch_if(c: &Context, labels: &Labels, top: &mut Operands, n: u32) -> Result
 
 /// Whether this was so, and two labels have one type.
 fn agree(same: bool, t: Option<ValTy>, u: Option<ValTy>) -> bool
-    ensures { result ≡ (same && same_result t u) }
+    ensures { result ≡ (same && is_same_result t u) }
 {
     match (t, u) {
         (None, None) => same,

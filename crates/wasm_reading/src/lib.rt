@@ -1,4 +1,5 @@
-//! What reading the bytes of a WebAssembly module gives: its tree, or the first fault and its place. Definitions.
+//! What reading the bytes of a WebAssembly module gives: its tree, or the first fault and its place (WebAssembly Core
+//! Specification 1.0, 5; order and faults: this project's own). Definitions, a law of their bounds, and rows that are computed.
 #![tactic(auto)]
 
 mod fault;

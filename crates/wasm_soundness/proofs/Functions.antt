@@ -18,7 +18,8 @@ use Rattle.wasm_typing.specs.Contexts as contexts
 use Rattle.wasm_typing.specs.Fields.{function_rule, is_index}
 use Rattle.wasm_typing.specs.Modules.{IsValid}
 use Rattle.wasm_typing.specs.declared.rule.WRule.TheVariants.{TypeIndex}
-use Rattle.wasm_execution.specs.Types.{is_same_type, takes_and_gives}
+use Rattle.wasm_execution.specs.Types.{takes_and_gives}
+use Rattle.wasm_ast.specs.SameTypes.{is_same_type}
 use Rattle.wasm_execution.specs.Environments.{Environment, Function, environment_of, function_at, function_in, function_with, functions_of, imported, own_functions, most_pages_of}
 use Rattle.wasm_execution.specs.Environments as environments
 use Rattle.wasm_execution.specs.Imports.{is_print, prints_i64}

@@ -23,7 +23,7 @@ use Rattle.wasm_typing.specs.declared.rule.WRule.TheVariants.{TypeIndex, FuncInd
 use Rattle.wasm_typing.specs.declared.context.Context.{Context}
 use Rattle.wasm_typing.specs.declared.context.GlobalType.{GlobalType}
 use Rattle.wasm_typing.specs.Contexts.{imported_memories, imported_tables}
-use Rattle.wasm_typing.specs.Signatures.{same_type}
+use Rattle.wasm_ast.specs.SameTypes.{is_same_value_type}
 
 -- the rule, where this does not hold
 abbrev pub breaks_unless : Bool → WRule → Option WRule
@@ -84,9 +84,9 @@ constant_form globals w = Some ConstExpr
 
 -- the type of its value
 abbrev pub constant_type : List GlobalType → ValTy → WInstr-F WInstr → Option WRule
-constant_type globals t (WInstr-F.I32Const n) = breaks_unless (same_type I32 t) EndOperands
-constant_type globals t (WInstr-F.I64Const n) = breaks_unless (same_type I64 t) EndOperands
-constant_type globals t (WInstr-F.GlobalGet n) = elim (slice_get globals n) [ None ↦ None | Some g ↦ breaks_unless (same_type g.ty t) EndOperands ]
+constant_type globals t (WInstr-F.I32Const n) = breaks_unless (is_same_value_type I32 t) EndOperands
+constant_type globals t (WInstr-F.I64Const n) = breaks_unless (is_same_value_type I64 t) EndOperands
+constant_type globals t (WInstr-F.GlobalGet n) = elim (slice_get globals n) [ None ↦ None | Some g ↦ breaks_unless (is_same_value_type g.ty t) EndOperands ]
 constant_type globals t w = None
 
 -- a global, whose initial value may read these globals (3.4.4)

@@ -2,6 +2,7 @@
 -- of its indices and immediates that is wrong: indices come first, in byte order, and then what the other immediates owe.
 -- Operands are listed with the top one first.
 use Rattle.std.specs.Prelude.{ℕ, Bool, true, false, List, [], ◌∷◌, Option, Some, None, Result, Ok, Err, ◌&&◌, map, reverse, slice_get, option_map, option_to_list, nat_lt, nat_le, if◌then◌else◌}
+use Rattle.wasm_ast.specs.SameTypes.{is_same_result}
 use Rattle.wasm_ast.specs.declared.types.ValTy.{ValTy}
 use Rattle.wasm_ast.specs.declared.types.ValTy.TheVariants.{I32, I64}
 use Rattle.wasm_ast.specs.declared.instructions.WInstr.TheOpen.{WInstr-F}
@@ -51,19 +52,9 @@ all_of [] = Some []
 all_of (None ∷ os) = None
 all_of (Some a ∷ os) = option_map (λ as'. a ∷ as') (all_of os)
 
-abbrev pub same_type : ValTy → ValTy → Bool
-same_type I32 I32 = true
-same_type I64 I64 = true
-same_type _ _ = false
-
-abbrev pub same_result : Option ValTy → Option ValTy → Bool
-same_result None None = true
-same_result (Some t) (Some u) = same_type t u
-same_result _ _ = false
-
 abbrev pub all_same : Option ValTy → List (Option ValTy) → Bool
 all_same t [] = true
-all_same t (u ∷ us) = same_result u t && all_same t us
+all_same t (u ∷ us) = is_same_result u t && all_same t us
 
 -- blocks, loops and ifs are typed with the lists that they nest; this is never asked
 abbrev pub no_signature : Result Signature WRule

@@ -4,7 +4,8 @@ use Rattle.std.specs.Prelude.{Option, Some, None, Result, Ok, if◌then◌else�
 use Rattle.wasm_ast.specs.declared.types.ValTy.{ValTy}
 use Rattle.wasm_ast.specs.declared.types.ValTy.TheVariants.{I32, I64}
 use Rattle.wasm_typing.specs.declared.rule.WRule.{WRule}
-use Rattle.wasm_typing.specs.Signatures.{Slot, The, Same, Left, Gives, Anything, Signature, same_type}
+use Rattle.wasm_typing.specs.Signatures.{Slot, The, Same, Left, Gives, Anything, Signature}
+use Rattle.wasm_ast.specs.SameTypes.{is_same_value_type}
 use Rattle.wasm_typing.specs.Typing.{fill, IsLeft, Applies}
 use Rattle.wasm_typing_laws.specs.Checking.{Seen, Taken, agrees, meet, take_one, took, take_slots, left_of, fits}
 
@@ -18,18 +19,18 @@ In [] true st = Unit {0}
 In (k ∷ ks) any [] = ⊥
 In (k ∷ ks) any (t ∷ st) = Is k t × In ks any st
 
-pub same_type-self : (t : ValTy) → same_type t t ≡ true
+pub same_type-self : (t : ValTy) → is_same_value_type t t ≡ true
 same_type-self I32 = refl
 same_type-self I64 = refl
 
-pub same_type-true : (t u : ValTy) → same_type t u ≡ true → t ≡ u
+pub same_type-true : (t u : ValTy) → is_same_value_type t u ≡ true → t ≡ u
 same_type-true I32 I32 e = refl
 same_type-true I64 I64 e = refl
 same_type-true I32 I64 e = absurd (cc)
 same_type-true I64 I32 e = absurd (cc)
 
-pub same_type-from : (t u : ValTy) → t ≡ u → same_type t u ≡ true
-same_type-from t u e = ap (same_type t) (sym e) ∙ same_type-self t
+pub same_type-from : (t u : ValTy) → t ≡ u → is_same_value_type t u ≡ true
+same_type-from t u e = ap (is_same_value_type t) (sym e) ∙ same_type-self t
 
 pub agrees-forth : (k : Option ValTy) (t : ValTy) → Is k t → agrees k t ≡ true
 agrees-forth None t h = refl
@@ -53,7 +54,7 @@ pub meet-back : (v k now : Option ValTy) (t : ValTy) → meet v k ≡ Some now �
 meet-back None k now t e h = let q : now ≡ k = (cc) in (tt, subst (λ (x : Option ValTy). Is x t) q h)
 meet-back (Some u) None now t e h = let q : now ≡ Some u = (cc) in (subst (λ (x : Option ValTy). Is x t) q h, tt)
 meet-back (Some u) (Some v) now t e h =
-    let p = chosen (same_type u v) (Some u) now e in
+    let p = chosen (is_same_value_type u v) (Some u) now e in
     let hu : u ≡ t = subst (λ (x : Option ValTy). Is x t) (sym p.1) h in
     (hu, sym (same_type-true u v p.0) ∙ hu)
 

@@ -5,7 +5,8 @@ use Rattle.wasm_ast.specs.declared.types.ValTy.TheVariants.{I32}
 use Rattle.wasm_typing.specs.declared.rule.WRule.{WRule}
 use Rattle.wasm_typing.specs.declared.rule.WRule.TheVariants.{OperandMissing, OperandType, EndOperands}
 use Rattle.wasm_typing.specs.declared.context.Context.{Context}
-use Rattle.wasm_typing.specs.Signatures.{Slot, The, Same, Left, Gives, Anything, signature_in, same_type}
+use Rattle.wasm_typing.specs.Signatures.{Slot, The, Same, Left, Gives, Anything, signature_in}
+use Rattle.wasm_ast.specs.SameTypes.{is_same_value_type}
 use Rattle.wasm_typing.specs.Tokens.{Token, Plain, OpensBlock, OpensLoop, OpensIf, Else, End}
 use Rattle.wasm_typing.specs.ByteOrder.{Shape, Straight, Again, FirstArm, Open, labels, result_of, put}
 
@@ -21,12 +22,12 @@ pub record Taken : Type 0 where
 
 abbrev pub agrees : Option ValTy → ValTy → Bool
 agrees None t = true
-agrees (Some u) t = same_type u t
+agrees (Some u) t = is_same_value_type u t
 
 abbrev pub meet : Option ValTy → Option ValTy → Option (Option ValTy)
 meet None k = Some k
 meet (Some u) None = Some (Some u)
-meet (Some u) (Some v) = if same_type u v then Some (Some u) else None
+meet (Some u) (Some v) = if is_same_value_type u v then Some (Some u) else None
 
 abbrev pub take_one : Slot → Option ValTy → Option ValTy → Option (Option ValTy)
 take_one (The u) same k = if agrees k u then Some same else None
