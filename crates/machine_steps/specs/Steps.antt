@@ -1,5 +1,5 @@
 -- A machine that makes steps and says events, and what is reached after so many steps. This project's own.
-use Rattle.std.specs.Prelude.{ℕ, zero, suc, ◌+◌, List, [], ◌∷◌, ◌++◌}
+use Rattle.std.specs.Prelude.{ℕ, zero, suc, ◌+◌, List, [], ◌∷◌, ◌++◌, Option, Some, None}
 use Rattle.machine_steps.specs.declared.End.{End}
 
 -- one step: to another state, or to an end and the state there, with what is said on the way; or there is none
