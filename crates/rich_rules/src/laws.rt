@@ -1,0 +1,4 @@
+/// Rows, computed.
+pub fn worked_bodies()
+    ensures { Prim.Unit {0} }
+{}

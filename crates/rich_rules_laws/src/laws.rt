@@ -1,0 +1,19 @@
+ghost use Rattle.rich_rules_laws.specs.Laws.{ListDecided, ListNeverBoth, ListNotes, ListOneViolation, ModuleDecided, ModuleNeverBoth, ModuleNotes, ModuleOneViolation};
+
+/// A law on every list of instructions, from every point: it has a derivation or exactly one first violation, and never
+/// both; and its derivations have the same notes.
+pub fn bodies_decided()
+    ensures either { ListDecided }
+    ensures never_both { ListNeverBoth }
+    ensures one_derivation { ListNotes }
+    ensures one_violation { ListOneViolation }
+{}
+
+/// A law on every module: it is well typed or has exactly one first violation, and never both; and its derivations have
+/// the same notes.
+pub fn modules_decided()
+    ensures either { ModuleDecided }
+    ensures never_both { ModuleNeverBoth }
+    ensures one_derivation { ModuleNotes }
+    ensures one_violation { ModuleOneViolation }
+{}
