@@ -8,9 +8,9 @@ use Rattle.rw_types.specs.declared.types.Ty.{Ty}
 use Rattle.rich_types.specs.Scopes.{Scope, scope_of}
 use Rattle.rich_typing.specs.declared.rules.Rule.TheVariants as rule
 use Rattle.rich_rules.specs.Forms.{is_rw, fits, first_ill_formed}
-use Rattle.rich_rules.specs.Points.{Frame, Label, Point, Exactly, Demand, Entry, Outcome, Enters}
+use Rattle.rich_rules.specs.Points.{Frame, Label, Point, Exactly, Entry, Outcome, Enters}
 use Rattle.rich_rules.specs.Raised.{below_one, raise_all, entered}
-use Rattle.rich_rules.specs.Takers.{Reference, unr_i32, need, without, these, one_over, of_type, hidden_form, variant_form, package_form}
+use Rattle.rich_rules.specs.Takers.{unr_i32, need, without, these, one_over, of_type, hidden_form, variant_form, package_form}
 
 -- whether the local with this number is among these
 abbrev pub is_named : ℕ → List LocalTy → Bool

@@ -16,3 +16,4 @@ pub mod Table
 pub mod Derivations
 pub mod Violations
 pub mod Modules
+pub mod Rows

@@ -10,7 +10,7 @@ use Rattle.rw_types.specs.declared.modules.ExportDef.{ExportDef}
 use Rattle.rw_types.specs.declared.modules.Module.{Module}
 use Rattle.rw_types.specs.declared.types.FunType.{FunType}
 use Rattle.rw_types.specs.declared.types.Ty.{Ty}
-use Rattle.rich_types.specs.Scopes.{Scope, no_scope, scope_of}
+use Rattle.rich_types.specs.Scopes.{no_scope, scope_of}
 use Rattle.rich_types.specs.Sizes.{size_under}
 use Rattle.rich_types.specs.WellFormed.{most_words}
 use Rattle.rich_typing.specs.declared.notes.Note.{Note}
@@ -19,7 +19,7 @@ use Rattle.rich_typing.specs.declared.notes.Place.TheVariants.{FuncType, FuncAt,
 use Rattle.rich_typing.specs.declared.rules.Rule.{Rule}
 use Rattle.rich_typing.specs.declared.rules.Rule.TheVariants as rule
 use Rattle.rich_rules.specs.Forms.{is_formed, is_unr_type, first_ill_formed}
-use Rattle.rich_rules.specs.Points.{GlobalType, Owner, OfFunction, OfGlobal, Frame, Point, Broken, Broke, Exactly, AllUnr, Demand}
+use Rattle.rich_rules.specs.Points.{GlobalType, OfFunction, OfGlobal, Frame, Point, Broken, Broke, AllUnr, Demand}
 use Rattle.rich_rules.specs.Takers.{unr_unit, or_else}
 use Rattle.rich_rules.specs.Derivations.{Derives}
 use Rattle.rich_rules.specs.Violations.{Violates}

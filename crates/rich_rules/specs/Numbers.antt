@@ -1,6 +1,6 @@
 -- What number instructions take and give, by their WebAssembly types (WebAssembly Core Specification 1.0, section
 -- 3.3.1).
-use Rattle.std.specs.Prelude.{List, [], ◌∷◌, length}
+use Rattle.std.specs.Prelude.{List, [], ◌∷◌}
 use Rattle.rw_types.specs.declared.numbers.NumName.{NumName}
 use Rattle.rw_types.specs.declared.numbers.NumName.TheVariants as num
 use Rattle.rw_types.specs.declared.types.Ty.{Ty}

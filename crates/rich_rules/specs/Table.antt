@@ -2,7 +2,6 @@
 -- what the point before it tells. This project's own.
 use Rattle.std.specs.Prelude.{ℕ, ◌+◌, List, [], ◌∷◌, Option, Some, None, length, take, drop, reverse, slice_get}
 use Rattle.rw_types.specs.declared.instrs.Instr.{Instr, Nop, Unreachable, Drop, Unit, Print, I32Const, I64Const, Num, Block', Loop', If', Br, BrIf, Return, LocalGet, LocalTake, LocalSet, GlobalGet, GlobalSet, Coderef, Inst, Call, CallIndirect, Qualify, RecFold, RecUnfold, Group, Ungroup, MemPack, MemUnpack', RefSplit, RefJoin, CapSplit, CapJoin, StructMalloc, StructFree, StructGet, StructSet, StructSwap, VariantMalloc, VariantCase', ArrayMalloc, ArrayGet, ArraySet, ArrayLen, ArrayFree, ExistPack, ExistUnpack', items-the_row-Instr, Row_of-Instr-VariantCase-1-1, end_of-Instr-VariantCase-1-1, more_of-Instr-VariantCase-1-1}
-use Rattle.rw_types.specs.declared.types.Binder.{Binder}
 use Rattle.rw_types.specs.declared.types.FunType.{FunType}
 use Rattle.rw_types.specs.declared.types.Pre.{Code', end_of-FunType, more_of-FunType}
 use Rattle.rw_types.specs.declared.types.Ty.{Ty, Of, items-the_row-Ty}
@@ -10,7 +9,7 @@ use Rattle.rich_types.specs.Scopes.{Scope, scope_of}
 use Rattle.rich_types.specs.Sizes.{list_size}
 use Rattle.rich_typing.specs.declared.notes.Note.{Note}
 use Rattle.rich_typing.specs.declared.rules.Rule.TheVariants as rule
-use Rattle.rich_rules.specs.Points.{Frame, Owner, OfFunction, OfGlobal, Label, Point, Outcome, Gives, Ends, Breaks, Broke}
+use Rattle.rich_rules.specs.Points.{Frame, Owner, OfFunction, OfGlobal, Label, Point, Outcome, Ends, Breaks, Broke}
 use Rattle.rich_rules.specs.Takers.{unr_unit, unr_i32, unr_i64, gives}
 use Rattle.rich_rules.specs.Numbers.{num_sig}
 use Rattle.rich_rules.specs.Plain.{from_to, drop_row, qualify_row, fold_row, unfold_row, group_row, ungroup_row}

@@ -15,7 +15,7 @@ use Rattle.rich_typing.specs.declared.rules.Rule.{Rule}
 use Rattle.rich_typing.specs.declared.rules.Rule.TheVariants as rule
 use Rattle.rich_rules.specs.Equality.{same}
 use Rattle.rich_rules.specs.Forms.{is_unr, is_unr_type, is_formed, first_ill_formed}
-use Rattle.rich_rules.specs.Points.{Broken, Broke, Change, Outcome, Gives, Breaks}
+use Rattle.rich_rules.specs.Points.{Broke, Outcome, Gives, Breaks}
 
 -- the types of a unit and of numbers of 32 and of 64 bits
 abbrev pub unr_unit : Ty

@@ -1,10 +1,10 @@
 -- Rows on locals and globals. This project's own.
-use Rattle.std.specs.Prelude.{ℕ, List, [], ◌∷◌, ◌++◌, not, nat_lt, Option, Some, None, slice_get}
+use Rattle.std.specs.Prelude.{ℕ, List, [], ◌∷◌, not, nat_lt, Option, Some, None, slice_get}
 use Rattle.rw_types.specs.declared.types.Ty.{Ty}
 use Rattle.rich_types.specs.Scopes.{Scope}
 use Rattle.rich_typing.specs.declared.rules.Rule.TheVariants as rule
 use Rattle.rich_rules.specs.Forms.{is_unr_type, fits}
-use Rattle.rich_rules.specs.Points.{GlobalType, Frame, Owner, OfFunction, OfGlobal, Becomes, Outcome, Gives}
+use Rattle.rich_rules.specs.Points.{Frame, Owner, OfFunction, OfGlobal, Becomes, Outcome, Gives}
 use Rattle.rich_rules.specs.Takers.{unr_unit, need, with_some, one, these, gives, gives_formed}
 
 -- `local.get` copies a value that is `unr`

@@ -1,7 +1,7 @@
-//! The rules of Rich modules: what each instruction makes of a point of a body, derivations and first violations of
-//! bodies, and of modules. `worked_bodies` are its rows.
+//! Definitions of the rules of Rich modules: what each instruction makes of a point of a body, derivations and first
+//! violations of bodies, and well-typed modules. `worked_rules` are rows of them; further rows and laws stand above.
 #![tactic(auto)]
 
 mod laws;
 
-pub use laws::worked_bodies;
+pub use laws::worked_rules;

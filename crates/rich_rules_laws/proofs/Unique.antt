@@ -1,13 +1,13 @@
 -- One derivation, one first violation, and not both, by induction on the derivations; and of modules part by part.
-use Rattle.std.proofs.Common.{◌≡◌, ◌++◌, ℕ, suc, List, [], ◌∷◌, Option, Some, None, refl, sym, ap, ◌∙◌, subst}
+use Rattle.std.proofs.Common.{◌≡◌, ℕ, List, [], ◌∷◌, Option, sym, ap, ◌∙◌, subst}
 use Rattle.rw_types.specs.declared.instrs.Instr.{Instr}
 use Rattle.rw_types.specs.declared.types.Ty.{Ty}
 use Rattle.rich_typing.specs.declared.notes.Note.{Note}
 use Rattle.rich_typing.specs.declared.notes.Place.{Place}
 use Rattle.rich_typing.specs.declared.rules.Rule.{Rule}
-use Rattle.rich_rules.specs.Points.{Frame, Point, Broken, Broke, Change, Outcome, Gives, Ends, Enters, Breaks, Entry, Demand, moved, start, after}
-use Rattle.rich_rules.specs.Table.{row, note_of, arms_of}
-use Rattle.rich_rules.specs.Derivations.{end_broken, Derives, Follows, DerivesArms, at_end, step, ends, goes_on, enters, no_arm, arm}
+use Rattle.rich_rules.specs.Points.{Frame, Point, Broken, Broke, Outcome, Entry, Demand}
+use Rattle.rich_rules.specs.Table.{note_of, arms_of}
+use Rattle.rich_rules.specs.Derivations.{Derives, Follows, DerivesArms, at_end, step, ends, goes_on, enters, no_arm, arm}
 use Rattle.rich_rules.specs.Violations.{Violates, Meets, ViolatesArm, in_end, in_step, here, dead, later, inside, beyond, in_arm, in_later_arm}
 use Rattle.rich_rules.specs.Modules.{Part, Field, Body, AreTyped, AreViolated, no_part, field, body, in_field, after_field, in_body, after_body}
 

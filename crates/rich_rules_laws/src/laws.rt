@@ -1,4 +1,13 @@
+ghost use Rattle.rich_rules_laws.specs.Tests.{TypesCompared, FormsTold, ListFormsTold};
 ghost use Rattle.rich_rules_laws.specs.Laws.{ListDecided, ListNeverBoth, ListNotes, ListOneViolation, ModuleDecided, ModuleNeverBoth, ModuleNotes, ModuleOneViolation};
+
+/// A law on the tests that the rules ask of types: they are told to be the same exactly where they are, and well formed
+/// exactly where they are.
+pub fn types_told()
+    ensures compared { TypesCompared }
+    ensures formed { FormsTold }
+    ensures all_formed { ListFormsTold }
+{}
 
 /// A law on every list of instructions, from every point: it has a derivation or exactly one first violation, and never
 /// both; and its derivations have the same notes.

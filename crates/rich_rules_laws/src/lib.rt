@@ -4,4 +4,4 @@
 
 mod laws;
 
-pub use laws::{bodies_decided, modules_decided};
+pub use laws::{bodies_decided, modules_decided, types_told};
