@@ -1,5 +1,5 @@
 -- Rows that enter lists. This project's own.
-use Rattle.std.specs.Prelude.{ℕ, List, [], ◌∷◌, ◌++◌, ◌&&◌, ◌==◌, not, nat_lt, Bool, true, false, if◌then◌else◌, Option, Some, None, length, reverse, slice_get, slice_set}
+use Rattle.std.specs.Prelude.{ℕ, List, [], ◌∷◌, ◌++◌, ◌&&◌, ◌||◌, ◌==◌, not, nat_lt, Bool, true, false, if◌then◌else◌, Option, Some, None, length, reverse, slice_get, slice_set}
 use Rattle.rw_types.specs.declared.instrs.BlockSig.{BlockSig}
 use Rattle.rw_types.specs.declared.instrs.LocalTy.{LocalTy}
 use Rattle.rw_types.specs.declared.types.Binder.{Binder}
@@ -15,7 +15,7 @@ use Rattle.rich_rules.specs.Takers.{unr_i32, need, without, these, one_over, of_
 -- whether the local with this number is among these
 abbrev pub is_named : ℕ → List LocalTy → Bool
 is_named n [] = false
-is_named n (l ∷ ls) = if n == l.index then true else is_named n ls
+is_named n (l ∷ ls) = (n == l.index) || is_named n ls
 
 -- whether the locals of a signature are among so many, and none is named twice
 abbrev pub are_named_once : ℕ → List LocalTy → Bool

@@ -2,6 +2,7 @@
 use Rattle.std.specs.Prelude.{List, [], ◌∷◌, Bool, true, false, ◌&&◌, ◌==◌}
 use Rattle.rw_types.specs.declared.types.Binder.{Binder}
 use Rattle.rw_types.specs.declared.types.Binder.TheVariants.{Loc, Kind}
+use Rattle.rw_types.specs.declared.types.FunType.{FunType}
 use Rattle.rw_types.specs.declared.types.Mem.{Mem}
 use Rattle.rw_types.specs.declared.types.Mem.TheVariants.{L, U}
 use Rattle.rw_types.specs.declared.types.Priv.{Priv}
@@ -78,3 +79,13 @@ abbrev mutual
   same_slot_row end_of-Slot end_of-Slot = true
   same_slot_row (more_of-Slot t s ss) (more_of-Slot u n rs) = (same t u && (s == n)) && same_slot_row ss rs
   same_slot_row _ _ = false
+
+-- whether lists of types are the same, one for one
+abbrev pub same_types : List Ty → List Ty → Bool
+same_types [] [] = true
+same_types (t ∷ ts) (u ∷ us) = same t u && same_types ts us
+same_types _ _ = false
+
+-- whether two function types are the same
+abbrev pub same_function : FunType → FunType → Bool
+same_function f g = (same_binders f.binders g.binders && same_types f.params g.params) && same_types f.results g.results

@@ -1,7 +1,7 @@
 -- Well-typed modules, with the notes of their bodies, and the first violation of a module. A module is looked at
 -- field by field in the order of the text, and of a field first at its own rules and then at its body. This
 -- project's own.
-use Rattle.std.specs.Prelude.{◌≡◌, ℕ, ◌+◌, suc, nat_le, nat_lt, List, [], ◌∷◌, ◌++◌, Bool, true, false, ◌&&◌, ◌||◌, if◌then◌else◌, Option, Some, None, length, map, replicate, reverse, bytes_eq}
+use Rattle.std.specs.Prelude.{◌≡◌, ℕ, ◌+◌, suc, nat_le, nat_lt, List, [], ◌∷◌, ◌++◌, Bool, true, false, not, ◌&&◌, ◌||◌, if◌then◌else◌, Option, Some, None, length, map, replicate, reverse, bytes_eq}
 use Rattle.rw_types.specs.declared.instrs.Instr.{Instr}
 use Rattle.rw_types.specs.declared.modules.ImportDef.{ImportDef}
 use Rattle.rw_types.specs.declared.modules.FuncDef.{FuncDef}
@@ -99,7 +99,7 @@ is_exported name (e ∷ es) = bytes_eq name e.name || is_exported name es
 
 -- what an export breaks, which these come before
 abbrev pub export_broken : Module → List ExportDef → ExportDef → Option Broken
-export_broken m before e = or_else (broken_unless (is_defined m e.func) rule.Index) (broken_unless (if is_exported e.name before then false else true) rule.Duplicate)
+export_broken m before e = or_else (broken_unless (is_defined m e.func) rule.Index) (broken_unless (not (is_exported e.name before)) rule.Duplicate)
 
 -- a part of a module: a field's own rules, with its place and what they are broken by; or a body, with the places of its
 -- paths, its frame, what its end demands, and the point at its start

@@ -1,6 +1,6 @@
 -- Conditions, and the forms of operands that are taken. A condition that fails breaks a rule; what follows is
 -- looked at only where it holds. This project's own.
-use Rattle.std.specs.Prelude.{ℕ, ◌+◌, List, [], ◌∷◌, ◌++◌, Bool, true, false, if◌then◌else◌, Option, Some, None, length, take, drop, reverse, nat_lt}
+use Rattle.std.specs.Prelude.{ℕ, ◌+◌, List, [], ◌∷◌, ◌++◌, Bool, true, false, not, if◌then◌else◌, Option, Some, None, length, take, drop, reverse, nat_lt}
 use Rattle.rw_types.specs.declared.types.FunType.{FunType}
 use Rattle.rw_types.specs.declared.types.Heap.{Heap, Struct', Variant', Array', Exist', items-the_row-Slot}
 use Rattle.rw_types.specs.declared.types.Mem.{Mem}
@@ -125,7 +125,7 @@ need_unr q t rest = need (is_unr q) rule.OperandType (Some t) None rest
 
 -- and of one whose qualifier is another
 abbrev pub need_held : Qual → Ty → Outcome → Outcome
-need_held q t rest = need (if is_unr q then false else true) rule.OperandType (Some t) None rest
+need_held q t rest = need (not (is_unr q)) rule.OperandType (Some t) None rest
 
 -- a form of value that is `unr`
 abbrev pub unr_form : Ty → (Pre → Outcome) → Outcome

@@ -3,6 +3,7 @@ use Rattle.std.proofs.Common.{◌≡◌, ◌∙◌, List, [], ◌∷◌, true, r
 use Rattle.std.proofs.lemmas.Bool.{and_parts, and_from, eqb-true, eq-eqb, false≢true}
 use Rattle.rw_types.specs.declared.types.Binder.{Binder}
 use Rattle.rw_types.specs.declared.types.Binder.TheVariants.{Loc, Kind}
+use Rattle.rw_types.specs.declared.types.FunType.{FunType}
 use Rattle.rw_types.specs.declared.types.Mem.{Mem}
 use Rattle.rw_types.specs.declared.types.Mem.TheVariants.{L, U}
 use Rattle.rw_types.specs.declared.types.Priv.{Priv}
@@ -18,7 +19,7 @@ use Rattle.rw_types.specs.declared.types.Heap.{Heap, Struct', Variant', Array', 
 use Rattle.rw_types.specs.declared.types.Heap.TheVariants.{Struct, Variant, Array, Exist}
 use Rattle.rw_types.specs.declared.types.Heap.TheBlock.{hidden-the_row-Ty-2}
 use Rattle.rich_types_laws.proofs.Unchanged.{whole-Tuple, whole-Code, whole-Struct, whole-Variant}
-use Rattle.rich_rules.specs.Equality.{same, same_pre, same_heap, same_row, same_slot_row, same_qual, same_memory, same_privilege, same_binders}
+use Rattle.rich_rules.specs.Equality.{same, same_pre, same_heap, same_row, same_slot_row, same_qual, same_memory, same_privilege, same_binders, same_types, same_function}
 
 quals : (q r : Qual) → same_qual q r ≡ true → q ≡ r
 quals Unr Unr e = refl
@@ -154,3 +155,21 @@ mutual
   reflexive_slots : {m : _} (ss : Row_of-Slot m) → same_slot_row ss ss ≡ true
   reflexive_slots end_of-Slot = refl
   reflexive_slots (more_of-Slot t s ss) = and_from _ _ (and_from _ _ (reflexive t) (eq-eqb s s refl)) (reflexive_slots ss)
+
+sound_list : (ts us : List Ty) → same_types ts us ≡ true → ts ≡ us
+sound_list [] [] e = refl
+sound_list (t ∷ ts) (u ∷ us) e = let x = and_parts _ _ e in both (λ y (l : List Ty). y ∷ l) (sound t u x.0) (sound_list ts us x.1)
+sound_list [] (u ∷ us) e = absurd (false≢true e)
+sound_list (t ∷ ts) [] e = absurd (false≢true e)
+
+reflexive_list : (ts : List Ty) → same_types ts ts ≡ true
+reflexive_list [] = refl
+reflexive_list (t ∷ ts) = and_from _ _ (reflexive t) (reflexive_list ts)
+
+pub sound_function : (f g : FunType) → same_function f g ≡ true → f ≡ g
+sound_function f g e =
+    let x = and_parts _ _ e in let y = and_parts _ _ x.0 in
+    three (λ (bs : List Binder) (ps rs : List Ty). record { binders = bs; params = ps; results = rs }) (binders f.binders g.binders y.0) (sound_list f.params g.params y.1) (sound_list f.results g.results x.1)
+
+pub reflexive_function : (f : FunType) → same_function f f ≡ true
+reflexive_function f = and_from _ _ (and_from _ _ (binders_refl f.binders) (reflexive_list f.params)) (reflexive_list f.results)

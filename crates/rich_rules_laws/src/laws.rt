@@ -1,10 +1,11 @@
-ghost use Rattle.rich_rules_laws.specs.Tests.{TypesCompared, FormsTold, ListFormsTold};
+ghost use Rattle.rich_rules_laws.specs.Tests.{TypesCompared, FunctionTypesCompared, FormsTold, ListFormsTold};
 ghost use Rattle.rich_rules_laws.specs.Laws.{ListDecided, ListNeverBoth, ListNotes, ListOneViolation, ModuleDecided, ModuleNeverBoth, ModuleNotes, ModuleOneViolation};
 
 /// A law on the tests that the rules ask of types: they are told to be the same exactly where they are, and well formed
 /// exactly where they are.
 pub fn types_told()
     ensures compared { TypesCompared }
+    ensures functions_compared { FunctionTypesCompared }
     ensures formed { FormsTold }
     ensures all_formed { ListFormsTold }
 {}
