@@ -32,13 +32,13 @@ pub record Slot : Type 0 where
   pub size : ℕ
   pub value : Val
 
--- what a cell holds: the slots of a struct; the number of a case and its value; the elements of an array; a value of a
--- hidden type
+-- what a cell holds: the slots of a struct; the number of a case and its value; the elements of an array; the size in words of
+-- a hidden type, and the value in whose type it stands
 pub data Content : Type 0 where
   Slots : List Slot → Content
   Case : ℕ → Val → Content
   Elements : List Val → Content
-  Hidden : Val → Content
+  Hidden : ℕ → Val → Content
 
 -- a cell, with its count of words, which is fixed when it is made
 pub record Cell : Type 0 where

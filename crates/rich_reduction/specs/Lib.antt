@@ -1,5 +1,14 @@
 pub mod Configurations
+pub mod Values
 pub mod Turns
+pub mod Numbers
+pub mod Plain
+pub mod Control
+pub mod Capabilities
+pub mod Cells
+pub mod Structs
+pub mod Arrays
+pub mod Packages
 pub mod Steps
 pub mod Starts
 pub mod Rows

@@ -1,5 +1,5 @@
-//! What a linked program does when it runs (this project's own): configurations, and a step. It is definitions, and rows that
-//! are computed.
+//! What a linked program does when it runs: configurations, a step for every instruction, and what is seen after so many steps.
+//! Rows that are computed stand beside the definitions.
 #![tactic(auto)]
 
 ghost use Rattle.rich_reduction.specs.Rows.{AddingTakes, DropStopsShort, DroppingTakes, GlobalsAreSet, GlobalsTake, InitialiserStopsShort, LeftOverStopsShort, PrintingTakes};

@@ -1,0 +1,3 @@
+pub mod ControlRuns
+pub mod CellRuns
+pub mod BinderRuns

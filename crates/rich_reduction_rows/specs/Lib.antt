@@ -1,0 +1,4 @@
+pub mod Programs
+pub mod ControlRows
+pub mod CellRows
+pub mod BinderRows
