@@ -5,7 +5,7 @@ use Rattle.wasm_execution.specs.Configurations.{Here}
 use Rattle.wasm_values.specs.Stacked.{Stacked}
 use Rattle.wasm_levels.specs.declared.row.OpenList.{OpenList}
 use Rattle.wasm_levels.specs.Lists.{count_of, levels_of, beneath_all, AreLaid}
-use Rattle.wasm_list_steps.specs.Moves.{Carries}
+use Rattle.wasm_list_steps.specs.Moves.{capacity, Carries}
 use Rattle.wasm_list_steps.proofs.Landing.{suffix}
 use Rattle.wasm_call_steps.specs.declared.callers.Waiting.{Waiting}
 use Rattle.wasm_call_steps.specs.Callers.{upper_part, lower_part, caller_of, callers_of, AreWaiting, Run, AreCalls, IsReturned}
@@ -13,7 +13,7 @@ use Rattle.wasm_call_steps.specs.Callers.{upper_part, lower_part, caller_of, cal
 -- the operands that the caller has then, and those beneath its innermost list
 pub carried : (gives : Bool) (height base : ℕ) (before after : Stacked) (ls : List OpenList) → height ≡ length (beneath_all ls before.beneath) → base ≤ height → Carries gives height base before after →
     (taken rest : List ℕ) → before.own ≡ taken ++ rest → length taken ≡ count_of gives →
-    (after.own ≡ taken ++ upper_part base (beneath_all ls before.beneath)) × (after.beneath ≡ lower_part base (beneath_all ls before.beneath)) × (before.room ≤ after.room)
+    (after.own ≡ taken ++ upper_part base (beneath_all ls before.beneath)) × (after.beneath ≡ lower_part base (beneath_all ls before.beneath)) × (capacity after ≡ capacity before)
 carried gives height base before after ls high le carries taken rest split long =
     let b = before.beneath in
     let under = beneath_all ls b in
@@ -33,7 +33,7 @@ made w ms vs ls bs = record { function = w.function; argument = w.argument; loca
 
 pub returned : (gives : Bool) (w : Waiting) (before after : Run) → before.callers ≡ w ∷ after.callers → AreCalls before → count_of gives ≤ length before.values.own →
     ((taken rest : List ℕ) → before.values.own ≡ taken ++ rest → length taken ≡ count_of gives →
-    (after.values.own ≡ taken ++ upper_part w.base (beneath_all before.levels.own before.values.beneath)) × (after.values.beneath ≡ lower_part w.base (beneath_all before.levels.own before.values.beneath)) × (before.values.room ≤ after.values.room)) →
+    (after.values.own ≡ taken ++ upper_part w.base (beneath_all before.levels.own before.values.beneath)) × (after.values.beneath ≡ lower_part w.base (beneath_all before.levels.own before.values.beneath)) × (capacity after.values ≡ capacity before.values)) →
     after.levels.own ≡ take w.lists before.levels.beneath → after.levels.beneath ≡ drop w.lists before.levels.beneath →
     after.locals.own ≡ drop w.first_local before.locals.beneath → after.locals.beneath ≡ take w.first_local before.locals.beneath → IsReturned gives w before after
 returned gives w before after calls kept enough operands own_lists lists own_locals locals =
@@ -63,5 +63,11 @@ returned gives w before after calls kept enough operands own_lists lists own_loc
         laid = subst₂ R (sym own_lists) (sym lower) waiting.3;
         waiting = subst Q2 (sym locals) (subst₂ Q1 (sym own_lists) (sym lower) (subst Q0 (sym lists) waiting.4));
       };
-      room = some.2;
+      room =
+          let own = ap length some.0 ∙ length-append (take k before.values.own) (upper_part w.base under) in
+          let low = ap length some.1 in
+          let all = ap length (sym (take-append-drop (length under - w.base) under)) ∙ length-append (upper_part w.base under) (lower_part w.base under) in
+          let few = length-take-le k before.values.own enough in
+          let kept_all = some.2 in
+          omega (arith, own, low, all, few, kept_all);
     }

@@ -1,12 +1,13 @@
 -- What a row of calls that wait means (WebAssembly Core Specification 1.0, section 4.2.12): each keeps how many operands and locals
 -- lie beneath its own, and how many lists it has open.
-use Rattle.std.specs.Prelude.{◌≡◌, ℕ, Bool, Option, Some, None, ◌-◌, ◌≤◌, List, [], ◌∷◌, ◌++◌, length, take, drop, reverse, replicate}
+use Rattle.std.specs.Prelude.{◌≡◌, ℕ, Bool, Option, Some, None, ◌+◌, ◌-◌, ◌≤◌, List, [], ◌∷◌, ◌++◌, length, take, drop, reverse, replicate}
 use Rattle.wasm_ast.specs.declared.instructions.WInstr.{WInstr}
 use Rattle.wasm_execution.specs.Configurations.{Here}
 use Rattle.wasm_values.specs.Stacked.{Stacked, Framed}
 use Rattle.wasm_levels.specs.declared.row.OpenList.{OpenList}
 use Rattle.wasm_levels.specs.Rows.{Rows}
 use Rattle.wasm_levels.specs.Lists.{count_of, levels_of, beneath_all, AreLaid}
+use Rattle.wasm_list_steps.specs.Moves.{capacity}
 use Rattle.wasm_call_steps.specs.declared.callers.Waiting.{Waiting}
 
 -- of the operands beneath a call, those of the call that waits for it, and those beneath that one's innermost list
@@ -86,7 +87,7 @@ pub record IsReturned (gives : Bool) (w : Waiting) (before after : Run) : Type 0
   pub here : (taken rest : List ℕ) → before.values.own ≡ taken ++ rest → length taken ≡ count_of gives →
       here_of w.function w.argument w.rest.now after ≡ record caller { operands = taken ++ caller.operands }
   pub calls : AreCalls after
-  pub room : before.values.room ≤ after.values.room
+  pub room : after.values.room + (count_of gives + length (beneath_all before.levels.own before.values.beneath)) ≡ capacity before.values
 
 -- what the end of a call leaves: the call that waited for it, or all as it was where none waits
 abbrev pub Returns : Bool → Option Waiting → Run → Run → Type 0

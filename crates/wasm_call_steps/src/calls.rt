@@ -1,4 +1,4 @@
-ghost use Rattle.std.specs.Prelude.{◌≡◌, ◌^◌, ◌<◌, ◌≤◌, length, OnOk, OnErr};
+ghost use Rattle.std.specs.Prelude.{◌≡◌, ◌^◌, ◌+◌, ◌<◌, ◌≤◌, length, OnOk, OnErr};
 ghost use Rattle.wasm_levels.specs.Lists.{count_of};
 ghost use Rattle.wasm_call_steps.specs.Callers.{AreCalls, IsEntered, Returns, run};
 
@@ -39,6 +39,8 @@ pub fn enter<'a>(
     requires declared { callee.declared < 2 ^ 48 }
     ensures entered { OnOk result (IsEntered caller.entry.function caller.entry.argument caller.entry.rest.now callee.params callee.declared (run values.old locals.old levels.old callers.old) (run values.new locals.new levels.new callers.new)) }
     ensures room { OnOk result (callee.room ≤ values.new.room) }
+    ensures more { OnOk result (values.old.room + callee.params ≤ values.new.room) }
+    ensures room_stays { OnErr result (values.old.room ≤ values.new.room) }
     ensures own { OnErr result (values.new.own ≡ values.old.own) }
     ensures beneath { OnErr result (values.new.beneath ≡ values.old.beneath) }
     ensures locals_own { OnErr result (locals.new.own ≡ locals.old.own) }

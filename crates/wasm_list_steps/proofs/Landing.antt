@@ -14,7 +14,7 @@ use Rattle.wasm_levels.specs.declared.row.Aim.TheVariants.{Past, Back}
 use Rattle.wasm_levels.specs.declared.row.OpenList.{OpenList}
 use Rattle.wasm_levels.specs.Rows.{Rows}
 use Rattle.wasm_levels.specs.Lists.{aim_of, takes_of, count_of, around, outer, level_of, levels_of, beneath_all, AreLaid}
-use Rattle.wasm_list_steps.specs.Moves.{shown, Stays, LeavesList, LandsAt, Carries}
+use Rattle.wasm_list_steps.specs.Moves.{shown, Stays, LeavesList, LandsAt, Carries, capacity}
 
 -- exactly so many operands are taken whole
 top_is : {Y : Type 0} (n : ℕ) (vs : List ℕ) (then_do : List ℕ → List ℕ → Turn Event Y) → length vs ≡ n → with_top n vs then_do ≡ then_do vs []
@@ -169,7 +169,7 @@ pub record Carried (n : ℕ) (l : OpenList) (before after : Stacked) (ls : List 
   pub long : length taken ≡ count_of l.gives
   pub own : after.own ≡ taken ++ around l (beneath_all (take n ls) before.beneath)
   pub beneath : after.beneath ≡ outer l (beneath_all (take n ls) before.beneath)
-  pub room : before.room ≤ after.room
+  pub capacity : capacity after ≡ capacity before
 
 pub carried : (n : ℕ) (l : OpenList) (before after : Stacked) (ls : List OpenList) (height : ℕ) → slice_get ls n ≡ Some l → AreLaid ls before.beneath → count_of l.gives ≤ length before.own →
     height ≡ length (beneath_all (take n ls) before.beneath) → Carries l.gives height l.base before after → Carried n l before after ls
@@ -187,18 +187,23 @@ carried n l before after ls height g laid enough high carries =
     let low : length (outer l under) ≡ l.base = outer-long l under (laid-here n ls b l g laid) in
     let all = ap length (around-outer l under) ∙ length-append (around l under) (outer l under) in
     let done = carries taken rest (rest ++ front.0) (around l under) (outer l under) split long parts low (omega (arith, all, low, high)) in
-    record { taken = taken; rest = rest; split = split; long = long; own = done.0; beneath = done.1; room = done.2 }
+    record { taken = taken; rest = rest; split = split; long = long; own = done.0; beneath = done.1; capacity = done.2 }
 
 -- a branch to the start of a list, by its operands
 pub cut_back : (n : ℕ) (before after : Stacked) (ls : List OpenList) (height : ℕ) → height ≡ length (beneath_all (take n ls) before.beneath) → IsCut height height before after →
-    (after.own ≡ []) × (after.beneath ≡ beneath_all (take n ls) before.beneath)
+    (after.own ≡ []) × (after.beneath ≡ beneath_all (take n ls) before.beneath) × (capacity after ≡ capacity before)
 cut_back n before after ls height high cut =
     let under = beneath_all (take n ls) before.beneath in
     let front = suffix (take n ls) before.beneath in
     let parts : before.own ++ before.beneath ≡ (before.own ++ front.0) ++ ([] ++ under) =
     ap (λ (vs : List ℕ). before.own ++ vs) front.1 ∙ sym (append_assoc before.own front.0 under) in
     let done = cut (before.own ++ front.0) [] under parts (sym high) (omega arith) in
-    (done.0, done.1)
+    let lo = ap length done.0 in
+    let lb = ap length done.1 in
+    let lf = length-append before.own front.0 in
+    let la = ap length front.1 ∙ length-append front.0 under in
+    let lr = done.2 in
+    (done.0, done.1, omega (arith, lo, lb, lf, la, lr))
 
 -- what lies beneath the call stays where a list is branched past
 pub kept-past : (n : ℕ) (l : OpenList) (before after : Stacked) (levels levels' : Rows) → slice_get levels.own n ≡ Some l → levels'.own ≡ drop (n + 1) levels.own → levels'.beneath ≡ levels.beneath →

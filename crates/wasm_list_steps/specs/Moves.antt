@@ -14,6 +14,10 @@ use Rattle.wasm_levels.specs.declared.row.OpenList.{OpenList}
 use Rattle.wasm_levels.specs.Rows.{Rows}
 use Rattle.wasm_levels.specs.Lists.{aim_of, takes_of, count_of, levels_of, beneath_all, AreLaid}
 
+-- how many operands there are in all, and how many more may be put on top without asking for memory
+abbrev pub capacity : Stacked → ℕ
+capacity values = values.room + (length values.own + length values.beneath)
+
 -- a call with these operands and open lists
 abbrev pub shown : Stacked → Rows → Here → Here
 shown values levels here = record here { operands = values.own; levels = levels_of levels.own values.beneath }
@@ -52,4 +56,4 @@ CanBranch n values levels = (l : OpenList) → slice_get levels.own n ≡ Some l
 abbrev pub Carries : Bool → ℕ → ℕ → Stacked → Stacked → Type 0
 Carries gives height base before after = (taken rest gone own beneath : List ℕ) → before.own ≡ taken ++ rest → length taken ≡ count_of gives →
     rest ++ before.beneath ≡ gone ++ (own ++ beneath) → length beneath ≡ base → length own + base ≡ height →
-    (after.own ≡ taken ++ own) × (after.beneath ≡ beneath) × (before.room ≤ after.room)
+    (after.own ≡ taken ++ own) × (after.beneath ≡ beneath) × (capacity after ≡ capacity before)

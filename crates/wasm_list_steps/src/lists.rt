@@ -1,6 +1,6 @@
 ghost use Rattle.std.specs.Prelude.{◌≡◌, ◌+◌, ◌<◌, ◌≤◌, length, take, OnOk, OnErr};
 ghost use Rattle.wasm_levels.specs.Lists.{AreLaid, beneath_all, count_of};
-ghost use Rattle.wasm_list_steps.specs.Moves.{CanBranch, Carries, EntersList, IsReady, LandsAt, LeavesList, Stays};
+ghost use Rattle.wasm_list_steps.specs.Moves.{capacity, CanBranch, Carries, EntersList, IsReady, LandsAt, LeavesList, Stays};
 
 use std::alloc::AllocError;
 use wasm_ast::WInstr;
@@ -18,6 +18,7 @@ pub fn enter<'a>(
 ) -> Result<(), AllocError>
     ensures does { OnOk result (EntersList aim.entry gives rest.now values.old levels.old values.new levels.new) }
     ensures stays { OnOk result (Stays values.old levels.old values.new levels.new) }
+    ensures capacity { OnOk result (capacity values.new ≡ capacity values.old) }
     ensures values { OnErr result (values.new ≡ values.old) }
     ensures levels { OnErr result (levels.new ≡ levels.old) }
     ensures room { values.new.room ≡ values.old.room }
@@ -39,7 +40,7 @@ pub fn leave<'a>(values: &mut Values, levels: &mut Levels<'a>) -> &'a [WInstr]
     requires ready { IsReady values.old levels.old }
     ensures does { LeavesList values.old levels.old result.now values.new levels.new }
     ensures stays { Stays values.old levels.old values.new levels.new }
-    ensures room { values.new.room ≡ values.old.room }
+    ensures capacity { capacity values.new ≡ capacity values.old }
 {
     let list = levels.get(0);
     levels.close(1);
@@ -83,7 +84,7 @@ pub fn branch<'a>(values: &mut Values, levels: &mut Levels<'a>, n: u32) -> &'a [
     requires enough { CanBranch n values.old levels.old }
     ensures does { LandsAt n values.old levels.old result.now values.new levels.new }
     ensures stays { Stays values.old levels.old values.new levels.new }
-    ensures room { values.old.room ≤ values.new.room }
+    ensures capacity { capacity values.new ≡ capacity values.old }
 {
     let n = n as usize;
     let height = height(values, levels, n);

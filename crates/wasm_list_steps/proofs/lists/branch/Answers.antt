@@ -38,13 +38,13 @@ returns-in-Past-clause-stays c =
     let done = carried c.args.n l before c.carry.new.values c.args.levels.now.own c.height-height.result c.get-list.ensures c.requires.laid enough c.height-height.ensures c.carry.ensures in
     kept-past c.args.n l before c.carry.new.values c.args.levels.now c.close.new.self c.get-list.ensures c.close.ensures.own c.close.ensures.beneath done.beneath
 
-pub returns-in-Past-clause-room : goal.returns-in-Past-clause-room
-returns-in-Past-clause-room c =
+pub returns-in-Past-clause-capacity : goal.returns-in-Past-clause-capacity
+returns-in-Past-clause-capacity c =
     let l = c.get-list.result in
     let before = c.args.values.now in
     let P : Aim → Type 0 = λ a. takes_of a l.gives ≤ length before.own in
     let enough = subst P c.in-Past.is (c.requires.enough l c.get-list.ensures) in
-    (carried c.args.n l before c.carry.new.values c.args.levels.now.own c.height-height.result c.get-list.ensures c.requires.laid enough c.height-height.ensures c.carry.ensures).room
+    (carried c.args.n l before c.carry.new.values c.args.levels.now.own c.height-height.result c.get-list.ensures c.requires.laid enough c.height-height.ensures c.carry.ensures).capacity
 
 pub returns-in-Back-clause-does : goal.returns-in-Back-clause-does
 returns-in-Back-clause-does c =
@@ -55,3 +55,6 @@ pub returns-in-Back-clause-stays : goal.returns-in-Back-clause-stays
 returns-in-Back-clause-stays c =
     let done = cut_back c.args.n c.args.values.now c.cut.new.self c.args.levels.now.own c.height-height.result c.height-height.ensures c.cut.ensures.cut in
     kept c.args.n c.args.values.now c.cut.new.self c.args.levels.now c.close-in-Back.new.self c.close-in-Back.ensures.own c.close-in-Back.ensures.beneath done.1
+
+pub returns-in-Back-clause-capacity : goal.returns-in-Back-clause-capacity
+returns-in-Back-clause-capacity c = (cut_back c.args.n c.args.values.now c.cut.new.self c.args.levels.now.own c.height-height.result c.height-height.ensures c.cut.ensures.cut).2
