@@ -7,7 +7,8 @@ use Rattle.machine_steps.specs.declared.Trap.TheVariants.{Index}
 use Rattle.machine_steps.specs.Steps.{Turn, Ended}
 use Rattle.rich_reduction.specs.Configurations.{Val, Number, Ref, Location, Elements, Cell, Stores, Here, Config, Event, Touched}
 use Rattle.rich_reduction.specs.Values.{words}
-use Rattle.rich_reduction.specs.Turns.{with_found, with_one, with_number, with_ref}
+use Rattle.rich_reduction.specs.Turns.{with_number, with_ref}
+use Rattle.machine_steps.specs.Steps.{with_found, with_one}
 use Rattle.rich_reduction.specs.Cells.{cell_at, with_elements, makes, reads, writes, frees}
 
 -- what follows where the top operand is a reference to an array

@@ -9,7 +9,8 @@ use Rattle.rw_program.specs.declared.linked.LinkedFunc.{LinkedFunc}
 use Rattle.machine_steps.specs.declared.End.TheVariants.{Value}
 use Rattle.machine_steps.specs.Steps.{Turn, Went, Ended, NoStep, with_top}
 use Rattle.rich_reduction.specs.Configurations.{Val, Number, Empty, Aim, Past, Back, Level, Here, Config, Event}
-use Rattle.rich_reduction.specs.Turns.{with_found, with_number, with_pack, with_code, with_all, goes_on, leaves}
+use Rattle.rich_reduction.specs.Turns.{with_number, with_pack, with_code, goes_on, leaves}
+use Rattle.machine_steps.specs.Steps.{with_found, with_all}
 
 -- the call that runs, within a list of this signature: a branch to it leads so and takes so many; the list begins with these
 -- operands and under these type variables, and beneath it lie those

@@ -10,7 +10,8 @@ use Rattle.rich_types.specs.Sizes.{list_greatest}
 use Rattle.machine_steps.specs.Steps.{Turn}
 use Rattle.rich_reduction.specs.Configurations.{Val, Case, Hidden, Content, Stores, Location, Here, Config, Event}
 use Rattle.rich_reduction.specs.Values.{words}
-use Rattle.rich_reduction.specs.Turns.{with_found, with_one, with_ref}
+use Rattle.rich_reduction.specs.Turns.{with_ref}
+use Rattle.machine_steps.specs.Steps.{with_found, with_one}
 use Rattle.rich_reduction.specs.Cells.{cell_at, with_case, with_hidden, makes, opens}
 use Rattle.rich_reduction.specs.Control.{enter_with}
 

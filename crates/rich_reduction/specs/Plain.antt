@@ -3,7 +3,8 @@ use Rattle.std.specs.Prelude.{ℕ, List, [], ◌∷◌, ◌++◌, reverse, slice
 use Rattle.machine_steps.specs.Steps.{Turn, Went, with_top}
 use Rattle.rich_reduction.specs.Configurations.{Val, Empty, Tuple, Fold, Pack, Here, Config, Event, Print}
 use Rattle.rich_reduction.specs.Values.{parts_of, list_of}
-use Rattle.rich_reduction.specs.Turns.{with_found, with_one, with_number, with_tuple, with_fold, with_code, goes_on, leaves}
+use Rattle.rich_reduction.specs.Turns.{with_number, with_tuple, with_fold, with_code, goes_on, leaves}
+use Rattle.machine_steps.specs.Steps.{with_found, with_one}
 
 -- this value is put on the operands
 abbrev pub put : Val → Here → Config → Turn Event Config

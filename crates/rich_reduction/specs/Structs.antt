@@ -4,7 +4,8 @@ use Rattle.rw_types.specs.declared.types.Mem.{Mem}
 use Rattle.rw_types.specs.declared.types.Priv.{Priv}
 use Rattle.machine_steps.specs.Steps.{Turn, with_top}
 use Rattle.rich_reduction.specs.Configurations.{Val, Ref, Location, Slot, Slots, Cell, Stores, Here, Config, Event}
-use Rattle.rich_reduction.specs.Turns.{with_found, with_one, with_ref}
+use Rattle.rich_reduction.specs.Turns.{with_ref}
+use Rattle.machine_steps.specs.Steps.{with_found, with_one}
 use Rattle.rich_reduction.specs.Cells.{cell_at, with_slots, makes, reads, writes, frees}
 
 -- slots of these sizes with these values

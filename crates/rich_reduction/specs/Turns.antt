@@ -1,20 +1,10 @@
 -- How a step goes on from what stands there. This project's own.
-use Rattle.std.specs.Prelude.{ℕ, List, [], ◌∷◌, Option, Some, None}
+use Rattle.std.specs.Prelude.{ℕ, List, [], ◌∷◌}
 use Rattle.rw_types.specs.declared.types.Priv.{Priv}
 use Rattle.machine_steps.specs.declared.End.TheVariants.{Trap}
 use Rattle.machine_steps.specs.declared.Trap as machine
-use Rattle.machine_steps.specs.Steps.{Turn, Went, Ended, NoStep, with_top}
+use Rattle.machine_steps.specs.Steps.{Turn, Went, Ended, NoStep}
 use Rattle.rich_reduction.specs.Configurations.{Val, Number, Tuple, Ref, Ptr, Cap, Own, Fold, Pack, Code, Vals, Location, Here, Config, Event}
-
--- what follows a look-up that found something
-abbrev pub with_found : {X : Type 0} → Option X → (X → Turn Event Config) → Turn Event Config
-with_found None then = NoStep
-with_found (Some x) then = then x
-
--- what follows from the top operand and those beneath it
-abbrev pub with_one : List Val → (Val → List Val → Turn Event Config) → Turn Event Config
-with_one [] then = NoStep
-with_one (v ∷ vs) then = then v vs
 
 -- what follows from the top operand, where it is a number, and those beneath it
 abbrev pub with_number : List Val → (ℕ → List Val → Turn Event Config) → Turn Event Config
@@ -60,15 +50,6 @@ with_pack _ then = NoStep
 abbrev pub with_code : List Val → (ℕ → List Val → Turn Event Config) → Turn Event Config
 with_code (Code f ∷ vs) then = then f vs
 with_code _ then = NoStep
-
--- what follows where nothing is left over
-abbrev pub with_none : List Val → Turn Event Config → Turn Event Config
-with_none [] then = then
-with_none (v ∷ vs) then = NoStep
-
--- what follows from exactly so many operands
-abbrev pub with_all : ℕ → List Val → (List Val → Turn Event Config) → Turn Event Config
-with_all n vs then = with_top n vs (λ taken beneath. with_none beneath (then taken))
 
 -- the call that runs goes on so, and nothing is said
 abbrev pub goes_on : Here → Config → Turn Event Config

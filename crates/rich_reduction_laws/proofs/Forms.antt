@@ -5,7 +5,8 @@ use Rattle.rw_types.specs.declared.types.Mem.TheVariants.{L, U}
 use Rattle.rw_types.specs.declared.types.Priv.{Priv}
 use Rattle.machine_steps.specs.Steps.{Turn, NoStep, with_top}
 use Rattle.rich_reduction.specs.Configurations.{Val, Number, Tuple, Ref, Ptr, Cap, Own, Fold, Pack, Code, Vals, Location, Slot, Content, Slots, Case, Elements, Hidden, Cell, Stores, Config, Event}
-use Rattle.rich_reduction.specs.Turns.{with_found, with_one, with_number, with_tuple, with_ref, with_ptr, with_cap, with_own, with_fold, with_pack, with_code, with_none, with_all}
+use Rattle.rich_reduction.specs.Turns.{with_number, with_tuple, with_ref, with_ptr, with_cap, with_own, with_fold, with_pack, with_code}
+use Rattle.machine_steps.specs.Steps.{with_found, with_one, with_none, with_all}
 use Rattle.rich_reduction.specs.Cells.{cell_at, with_slots, with_case, with_elements, with_hidden, with_linear}
 use Rattle.rich_reduction.specs.Structs.{with_struct}
 use Rattle.rich_reduction.specs.Arrays.{with_array}

@@ -18,7 +18,8 @@ use Rattle.machine_steps.specs.Steps.{Turn}
 use Rattle.wasm_execution.specs.Types.{width_of}
 use Rattle.wasm_execution.specs.Configurations.{Config, Event}
 use Rattle.wasm_execution.specs.Environments.{Environment}
-use Rattle.wasm_execution.specs.Turns.{with_found, with_one, with_two, leaves}
+use Rattle.wasm_execution.specs.Turns.{with_two, leaves}
+use Rattle.machine_steps.specs.Steps.{with_found, with_one}
 use Rattle.wasm_execution.specs.Variables.{chosen, put_local}
 use Rattle.wasm_execution.specs.Memories.{pages_of}
 use Rattle.wasm_execution.specs.Steps.{act}
