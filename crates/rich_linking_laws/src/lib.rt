@@ -1,0 +1,6 @@
+//! Laws on linking: a body with the numbers of the program has the derivation that it has in its file.
+#![tactic(auto)]
+
+mod laws;
+
+pub use laws::linked_bodies;
