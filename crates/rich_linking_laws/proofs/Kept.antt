@@ -1,9 +1,9 @@
 -- A derivation is one of the list with new numbers, by induction on it.
-use Rattle.std.proofs.Common.{◌≡◌, ◌∙◌, ℕ, List, [], ◌∷◌, refl, ap, sym, subst}
+use Rattle.std.proofs.Common.{◌∙◌, ℕ, List, [], ◌∷◌, ap, sym, subst}
 use Rattle.rw_types.specs.declared.instrs.Instr.{Instr}
 use Rattle.rich_typing.specs.declared.notes.Note.{Note}
 use Rattle.rich_rules.specs.Points.{Breaks, Demand, Ends, Enters, Entry, Frame, Gives, Outcome, Point}
-use Rattle.rich_rules.specs.Table.{arms_of, note_of, row}
+use Rattle.rich_rules.specs.Table.{arms_of}
 use Rattle.rich_rules.specs.Derivations.{Derives, DerivesArms, Follows, arm, at_end, ends, enters, goes_on, no_arm, step}
 use Rattle.rich_linking.specs.Numbers.{NewNumbers, renumbered, renumbered_list}
 use Rattle.rich_linking_laws.specs.Laws.{FramesAgree}

@@ -4,12 +4,10 @@ use Rattle.std.specs.Prelude.{⊤, slice_get, nat_lt}
 use Rattle.std.proofs.lemmas.Bool.{ltb-true, lt-ltb}
 use Rattle.rw_types.specs.declared.instrs.BlockSig.{BlockSig}
 use Rattle.rw_types.specs.declared.instrs.Instr.{Instr, Block', Loop', If', MemUnpack', VariantCase', ExistUnpack', Return, LocalGet, LocalTake, LocalSet, GlobalGet, GlobalSet, Coderef, Call, CallIndirect, Row_of-Instr, end_of-Instr, more_of-Instr, items-the_row-Instr, Row_of-Instr-VariantCase-1-1, end_of-Instr-VariantCase-1-1, more_of-Instr-VariantCase-1-1}
-use Rattle.rw_types.specs.declared.types.Ty.{Ty}
-use Rattle.rich_typing.specs.declared.notes.Note.{Note}
 use Rattle.rich_typing.specs.declared.rules.Rule.TheVariants as rule
 use Rattle.rich_types.specs.Scopes.{scope_of}
 use Rattle.rich_rules.specs.Forms.{first_ill_formed}
-use Rattle.rich_rules.specs.Points.{Broken, Broke, Breaks, Ends, Enters, Frame, Gives, OfFunction, OfGlobal, Outcome, Owner, Point}
+use Rattle.rich_rules.specs.Points.{Breaks, Frame, OfFunction, OfGlobal, Outcome, Owner, Point}
 use Rattle.rich_rules.specs.Takers.{need, with_some, without}
 use Rattle.rich_rules.specs.Blocks.{are_named_once, first_too_large, local_types, signed, variant_case_row}
 use Rattle.rich_rules.specs.Table.{arms_of, in_function, lists_of, note_of, note_taking, param_count, row, takes}

@@ -1,11 +1,14 @@
--- What new numbers keep: a body has the derivation that it had in its file, with the same notes. This project's own.
-use Rattle.std.specs.Prelude.{◌≡◌, ◌<◌, ℕ, List, Option, Some, ⊤, slice_get}
+-- What linking keeps: a body has the derivation that it had in its file, with the same notes. This project's own.
+use Rattle.std.specs.Prelude.{◌≡◌, ◌<◌, ℕ, List, Ok, Some, ⊤, slice_get}
 use Rattle.rw_types.specs.declared.instrs.Instr.{Instr}
 use Rattle.rw_types.specs.declared.types.FunType.{FunType}
 use Rattle.rich_typing.specs.declared.notes.Note.{Note}
 use Rattle.rich_rules.specs.Points.{Demand, Frame, GlobalType, OfFunction, OfGlobal, Owner, Point}
 use Rattle.rich_rules.specs.Derivations.{Derives}
+use Rattle.rw_program.specs.Programs.{Program}
 use Rattle.rich_linking.specs.Numbers.{NewNumbers, new_number, renumbered_list}
+use Rattle.rich_linking.specs.Linked.{File, linked}
+use Rattle.rich_linking.specs.TypedPrograms.{AreWellTyped, IsTypedProgram}
 
 -- both bodies are those of functions; or of globals, and what stands before the one stands before the other
 abbrev pub OwnersAgree : NewNumbers → Owner → Owner → Type 0
@@ -23,3 +26,7 @@ pub record FramesAgree (k : NewNumbers) (f g : Frame) : Type 0 where
 -- a derivation of a list is one of that list with new numbers, with the same notes
 abbrev pub DerivationsKept : Type 0
 DerivationsKept = (k : NewNumbers) (f g : Frame) (d : Demand) (p : Point) (is : List Instr) (notes : List Note) → FramesAgree k f g → Derives f d p is notes → Derives g d p (renumbered_list k is) notes
+
+-- the program that well-typed files link to is typed
+abbrev pub LinkedTyped : Type 0
+LinkedTyped = (files : List File) (p : Program) → AreWellTyped files → linked files ≡ Ok p → IsTypedProgram p

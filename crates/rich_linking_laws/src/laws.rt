@@ -1,7 +1,9 @@
-ghost use Rattle.rich_linking_laws.specs.Laws.{DerivationsKept};
+ghost use Rattle.rich_linking_laws.specs.Laws.{DerivationsKept, LinkedTyped};
 
-/// A law on every list of instructions with a derivation: with new numbers it has one with the same notes, in each frame
-/// in which functions and globals are under their new numbers what they are in the first under the old ones.
+/// Laws on linked bodies. A derivation of a list is one of that list with new numbers, with the same notes, in each frame
+/// in which functions and globals are under their new numbers what they were under the old ones. And where well-typed
+/// files link, each body of the program has a derivation under the program's numbers, with the notes of its file.
 pub fn linked_bodies()
-    ensures { DerivationsKept }
+    ensures kept { DerivationsKept }
+    ensures typed { LinkedTyped }
 {}

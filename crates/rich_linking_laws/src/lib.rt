@@ -1,4 +1,5 @@
-//! Laws on linking: a body with the numbers of the program has the derivation that it has in its file.
+//! Laws on linking: a body with the numbers of the program has the derivation that it has in its file, and the program of
+//! well-typed files is typed.
 #![tactic(auto)]
 
 mod laws;
