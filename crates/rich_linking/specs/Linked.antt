@@ -1,12 +1,11 @@
 -- What files with their names link to: the first of six refusals, or a program. Functions and globals are numbered in the
 -- order of the files, and an import is the function that it names. This project's own.
-use Rattle.std.specs.Prelude.{ℕ, ◌+◌, ◌-◌, zero, suc, List, [], ◌∷◌, ◌++◌, Bool, true, false, if◌then◌else◌, Option, Some, None, Result, Ok, Err, length, drop, slice_get, bytes_eq, codes, option_map, option_and_then}
+use Rattle.std.specs.Prelude.{ℕ, ◌+◌, ◌-◌, zero, suc, List, [], ◌∷◌, ◌++◌, if◌then◌else◌, Option, Some, None, Result, Ok, Err, length, drop, slice_get, bytes_eq, codes, option_map, option_and_then}
 use Rattle.rw_types.specs.declared.modules.ImportDef.{ImportDef}
 use Rattle.rw_types.specs.declared.modules.FuncDef.{FuncDef}
 use Rattle.rw_types.specs.declared.modules.GlobalDef.{GlobalDef}
 use Rattle.rw_types.specs.declared.modules.Module.{Module}
 use Rattle.rw_types.specs.declared.types.FunType.{FunType}
-use Rattle.rw_types.specs.declared.types.Ty.{Ty}
 use Rattle.rich_typing.specs.declared.notes.Note.{Note}
 use Rattle.rich_rules.specs.Equality.{same_function}
 use Rattle.rich_rules.specs.Takers.{unr_i64}

@@ -1,6 +1,6 @@
 -- Files with what they link to, written out. This project's own.
 use Rattle.std.specs.Prelude.{◌≡◌, ℕ, List, [], ◌∷◌, true, false, Ok, Err, codes}
-use Rattle.rw_types.specs.declared.instrs.Instr.{Call, Coderef, Drop, GlobalGet, GlobalSet, I64Const, Instr, LocalGet, LocalTake}
+use Rattle.rw_types.specs.declared.instrs.Instr.{Call, Coderef, Drop, GlobalGet, GlobalSet, I64Const, Instr, LocalTake}
 use Rattle.rw_types.specs.declared.instrs.Instr.TheVariants.{Block}
 use Rattle.rw_types.specs.declared.modules.ExportDef.{ExportDef}
 use Rattle.rw_types.specs.declared.modules.FuncDef.{FuncDef}
