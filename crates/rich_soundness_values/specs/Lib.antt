@@ -1,0 +1,4 @@
+pub mod Heaps
+pub mod Values
+pub mod Cells
+pub mod Laws
