@@ -1,0 +1,4 @@
+mod Layouts
+mod Decimals
+mod Forms
+mod Whole
