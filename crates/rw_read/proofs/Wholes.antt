@@ -1,5 +1,5 @@
 -- A whole text: its module, what stands behind it, and where its faults stand.
-use Rattle.std.proofs.Common.{◌≡◌, ◌∙◌, ℕ, suc, ◌-◌, Bool, true, false, List, [], ◌∷◌, length, refl, sym, ap, subst, arith, Option, None, Some, Result, Ok, Err, inl, inr}
+use Rattle.std.proofs.Common.{◌≡◌, ◌∙◌, ℕ, suc, ◌-◌, true, false, List, [], ◌∷◌, length, refl, sym, ap, subst, arith, Option, None, Some, Result, Ok, Err, inl, inr}
 use Rattle.std.specs.Prelude.{MatchOption, MatchResult, ◌==◌, codes}
 use Rattle.std.specs.Option.{option_map}
 use Rattle.std.specs.Result.{IsErrAnd}
@@ -8,12 +8,12 @@ use Rattle.std.proofs.lemmas.Result.{err_from_is_err_and}
 use Rattle.rw_types.specs.declared.modules.Module.{Module}
 use Rattle.rich_text.specs.Forms.{module_form}
 use Rattle.rich_text.specs.Tokens.{Token, Opening, Closing, Word, Quoted, Fault, BadUtf8, BadToken, TooDeep, NumberOut, BadForm, Unended, nesting_limit, same_word}
-use Rattle.rich_text.specs.Places.{Place, the_start}
+use Rattle.rich_text.specs.Places.{the_start}
 use Rattle.rich_text.specs.Utf8.{ill_formed}
 use Rattle.rich_text.specs.Lexing.{Lexed, lexed}
-use Rattle.rich_text.specs.Grammars.{Grammar, a_form}
+use Rattle.rich_text.specs.Grammars.{a_form}
 use Rattle.rich_text.specs.Reading.{Stop, read_part}
-use Rattle.rich_text.specs.Texts.{Found, found, grammar_by, grammar_of, if_encoded, nothing_behind, or_first, reading, reading_tokens, third, versions, whole}
+use Rattle.rich_text.specs.Texts.{Found, found, grammar_by, grammar_of, if_encoded, nothing_behind, or_first, reading, reading_tokens, third, whole}
 use Rattle.rich_text.specs.FirstVersion.{first_version}
 use Rattle.rich_text_laws.proofs.Whole.{never_both, one_module, read_is_spelled}
 use Rattle.rw_tokens.specs.declared.symbols.FirstFault.{FirstFault}
@@ -23,7 +23,7 @@ use Rattle.rw_tokens.specs.declared.symbols.TextFault.TheVariants as token
 use Rattle.rw_tokens.specs.Streams.{fault_of, found_of, place_of}
 use Rattle.rw_parser.specs.declared.errors.ReadError.{ReadError}
 use Rattle.rw_parser.specs.declared.errors.ReadError.TheVariants as read
-use Rattle.rw_parser.specs.Reads.{Fails, FailsAtWord, Gave, NoWord, Parse, StopsAtWord, TookWord, a_part, tokens_left}
+use Rattle.rw_parser.specs.Reads.{Fails, FailsAtWord, Gave, Parse, StopsAtWord, TookWord, a_part, tokens_left}
 use Rattle.rw_read.specs.declared.errors.TextError.{TextError}
 use Rattle.rw_read.specs.declared.errors.TextFault.{TextFault}
 use Rattle.rw_read.specs.declared.errors.TextFault.TheVariants as fault

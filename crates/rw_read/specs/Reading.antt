@@ -1,5 +1,5 @@
 -- What reading a whole text answers, against its definition (this project's own).
-use Rattle.std.specs.Prelude.{◌≡◌, ℕ, ◌<◌, List, [], Bool, true, false, Option, None, Some, MatchOption, Ok, Err}
+use Rattle.std.specs.Prelude.{◌≡◌, ℕ, List, [], Bool, true, false, Option, None, Some, MatchOption, Ok, Err}
 use Rattle.rw_types.specs.declared.modules.Module.{Module}
 use Rattle.rich_text.specs.Tokens.{Fault, BadUtf8, BadToken, TooDeep, NumberOut, BadForm, Unended}
 use Rattle.rich_text.specs.Lexing.{lexed}

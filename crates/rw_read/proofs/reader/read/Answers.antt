@@ -1,4 +1,4 @@
-use Rattle.std.proofs.Common.{◌≡◌, List, ℕ, ap}
+use Rattle.std.proofs.Common.{ap}
 use Rattle.rich_text_laws.proofs.Whole.{read_is_spelled}
 use Rattle.rw_parser.specs.Reads.{Parse}
 use Rattle.rw_read.proofs.Wholes.{encoded_read, fails_told, only_one, told_none, well_formed}
