@@ -142,7 +142,7 @@ pub no_type_told : NoTypeTold
 no_type_told bytes m v spells first = let lone = lone_refused m v (is_lone_main bytes m spells) first in (lone.1, lone.2)
 
 -- the files of a build are refused with 1 or 3
-files_status : (told : List NamedFile) (source : Source) (refused : Refused) → FilesLead told (source ∷ []) (Err refused) → (refused.status ≡ 1) ⊎ (refused.status ≡ 3)
+pub files_status : (told : List NamedFile) (source : Source) (refused : Refused) → FilesLead told (source ∷ []) (Err refused) → (refused.status ≡ 1) ⊎ (refused.status ≡ 3)
 files_status told source refused (stops r load e) =
     let first = first_refused (λ (s : Source). FileLoads told s.file) (source ∷ []) r load in
     inr (ap (λ (q : Refused). q.status) (same_refused refused r e) ∙ load_status told first.at.file r first.is)

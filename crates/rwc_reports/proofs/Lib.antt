@@ -7,3 +7,7 @@ pub mod Ways
 pub mod Causes
 pub mod CommandLaws
 pub mod Answering
+pub mod Runs
+pub mod Starting
+pub mod Executions
+pub mod Shows

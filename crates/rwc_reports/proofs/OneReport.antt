@@ -78,7 +78,7 @@ one_link files r s (linked a p is links x) (no_main none y) = let n : program_of
 one_link files r s (no_main none x) (linked b q also more y) = let n : program_of b ≡ None = subst HasNoMain also none in absurd (not_none q (sym more ∙ n))
 one_link files r s (no_main none x) (no_main also y) = x ∙ sym y
 
-one_program : (told : List NamedFile) (sources : List Source) (r s : Result Program Refused) → FilesLead told sources r → FilesLead told sources s → r ≡ s
+pub one_program : (told : List NamedFile) (sources : List Source) (r s : Result Program Refused) → FilesLead told sources r → FilesLead told sources s → r ≡ s
 one_program told sources r s a b =
     one_then (λ refused. Err refused) (SourcesLoad told sources) (λ all. Onward (SourcesCheck all) SourcesLink)
     (one_each (λ source. FileLoads told source.file) (λ source. one_load told source.file) sources)
@@ -90,7 +90,7 @@ first_section m id other first earliest (inl less) = absurd (omega (arith, first
 first_section m id other first earliest (inr (inl more)) = absurd (omega (arith, earliest.0, first.1 other more))
 first_section m id other first earliest (inr (inr same)) = same
 
-compare : (m n : ℕ) → (m < n) ⊎ ((n < m) ⊎ (m ≡ n))
+pub compare : (m n : ℕ) → (m < n) ⊎ ((n < m) ⊎ (m ≡ n))
 compare zero zero = inr (inr refl)
 compare zero (suc n) = inl (omega arith)
 compare (suc m) zero = inr (inl (omega arith))
@@ -103,13 +103,13 @@ one_encoding m r s (section_too_long id first x) (encoded short y) = absurd (ome
 one_encoding m r s (section_too_long id first x) (section_too_long other earliest y) =
     x ∙ ap (λ (n : ℕ). let o : Result (List ℕ) Refused = Err (record { status = 11; line = too_many_section_line n }) in o) (first_section m id other first earliest (compare id other)) ∙ sym y
 
-one_binary : (pages : Pages) (program : Program) (r s : Result (List ℕ) Refused) → ProgramLeads pages program r → ProgramLeads pages program s → r ≡ s
+pub one_binary : (pages : Pages) (program : Program) (r s : Result (List ℕ) Refused) → ProgramLeads pages program r → ProgramLeads pages program s → r ≡ s
 one_binary pages program r s a b = one_then (λ refused. Err refused) (ProgramLowers pages program) ModuleEncodes (λ p q x y. x ∙ sym y) (λ m is. one_encoding m) r s a b
 
 pub one_tree : (bytes : List ℕ) (m n : WModule) → SpellsModule bytes m → SpellsModule bytes n → m ≡ n
 one_tree bytes m n a b = let e = sym (spelled_is_read bytes m a) ∙ spelled_is_read bytes n b in cc
 
-one_decoding : (file bytes : List ℕ) (r s : Result WModule Refused) → BinaryDecodes file bytes r → BinaryDecodes file bytes s → r ≡ s
+pub one_decoding : (file bytes : List ℕ) (r s : Result WModule Refused) → BinaryDecodes file bytes r → BinaryDecodes file bytes s → r ≡ s
 one_decoding file bytes r s (decoded m is x) (decoded n also y) = x ∙ ap (λ (c : WModule). let o : Result WModule Refused = Ok c in o) (one_tree bytes m n is also) ∙ sym y
 one_decoding file bytes r s (decoded m is x) (malformed e first y) = absurd (never_both bytes m e is first)
 one_decoding file bytes r s (malformed e first x) (decoded m is y) = absurd (never_both bytes m e is first)

@@ -42,7 +42,7 @@ less_or_not zero b = inl (omega arith)
 less_or_not (suc a) zero = inr (omega arith)
 less_or_not (suc a) (suc b) = elim (less_or_not a b) [ inl le ↦ inl (omega (arith, le)) | inr more ↦ inr (omega (arith, more)) ]
 
-some_load : (told : List NamedFile) (file : List ℕ) → Answered (FileLoads told file)
+pub some_load : (told : List NamedFile) (file : List ℕ) → Answered (FileLoads told file)
 some_load told file = of_content (content_of told file) refl
   where
     of_content : (content : Option (List ℕ)) → content_of told file ≡ content → Answered (FileLoads told file)
@@ -65,20 +65,20 @@ some_link files file one = of_program (program_of file) refl
     of_program (Some program) is = (_, linked file program one is refl)
     of_program None is = (_, no_main (subst HasNoMain (sym one) is) refl)
 
-some_program : (told : List NamedFile) (source : Source) → Answered (FilesLead told (source ∷ []))
+pub some_program : (told : List NamedFile) (source : Source) → Answered (FilesLead told (source ∷ []))
 some_program told source =
     some_then (λ refused. Err refused) (SourcesLoad told (source ∷ [])) (λ all. Onward (SourcesCheck all) SourcesLink)
     (some_each (λ s. FileLoads told s.file) (λ s. some_load told s.file) (source ∷ []))
     (λ all load. some_then (λ refused. Err refused) (SourcesCheck all) SourcesLink (some_each SourceChecks some_source all)
     (λ checked check. let one = one_checked told source all checked load check in some_link (map (λ c. c.1) checked) one.value one.are))
 
-some_binary : (pages : Pages) (program : Program) → ArePages pages → IsLoneProgram program → Answered (ProgramLeads pages program)
+pub some_binary : (pages : Pages) (program : Program) → ArePages pages → IsLoneProgram program → Answered (ProgramLeads pages program)
 some_binary pages program are lone =
     some_then (λ refused. Err refused) (ProgramLowers pages program) ModuleEncodes (Ok (low_module program pages), refl)
     (λ m is. let same : m ≡ low_module program pages = same_value m (low_module program pages) is in
     (_, encoded (subst HasShortContents (sym same) (low_has_short_contents program pages lone are)) refl))
 
-some_decoding : (file bytes : List ℕ) → AreBytes bytes → Answered (BinaryDecodes file bytes)
+pub some_decoding : (file bytes : List ℕ) → AreBytes bytes → Answered (BinaryDecodes file bytes)
 some_decoding file bytes are = elim (module_or_fault bytes are) [ inl m ↦ (_, decoded m.0 m.1 refl) | inr e ↦ (_, malformed e.0 e.1 refl) ]
 
 given_number : (least greatest default : ℕ) (values : List (List ℕ)) (n : ℕ) → least ≤ default → default ≤ greatest → GivesNumber least greatest default values n → (least ≤ n) × (n ≤ greatest)
@@ -102,7 +102,7 @@ told_bytes : (told : List NamedFile) (file bytes : List ℕ) → AreOfBytes told
 told_bytes [] file bytes all is = absurd (not_none bytes (sym is))
 told_bytes (first ∷ more) file bytes all is = bytes_step (bytes_eq first.0 file) first.1 bytes (content_of more file) all.0 (λ e. told_bytes more file bytes all.1 e) is
 
-load_bytes : (told : List NamedFile) (file bytes : List ℕ) → AreOfBytes told → FileLoads told file (Ok bytes) → AreBytes bytes
+pub load_bytes : (told : List NamedFile) (file bytes : List ℕ) → AreOfBytes told → FileLoads told file (Ok bytes) → AreBytes bytes
 load_bytes told file bytes all (loaded own is le e) = subst AreBytes (sym (same_value bytes own e)) (told_bytes told file own all is)
 load_bytes told file bytes all (missing none e) = absurd (not_both bytes _ e)
 load_bytes told file bytes all (too_long own is long e) = absurd (not_both bytes _ e)

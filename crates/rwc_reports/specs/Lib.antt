@@ -8,10 +8,14 @@ pub mod Sources
 pub mod Binaries
 pub mod Dumps
 pub mod Runs
-pub mod RunRows
+pub mod Executables
+pub mod Executions
+pub mod Shows
 pub mod Reports
 pub mod Endings
 pub mod Answers
 pub mod Causes
 pub mod Headlines
+pub mod RunRows
 pub mod Laws
+pub mod ExecutionLaws

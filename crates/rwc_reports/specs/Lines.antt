@@ -1,5 +1,5 @@
 -- The lines that the tool prints; this project's own.
-use Rattle.std.specs.Prelude.{ℕ, List, ◌++◌, Bool, true, false, codes, decimal}
+use Rattle.std.specs.Prelude.{ℕ, List, ◌++◌, Bool, true, false, Option, Some, None, codes, decimal}
 
 abbrev pub words_line : List ℕ
 words_line = codes "words\n"
@@ -36,6 +36,20 @@ too_many_section_line id = codes "too many section " ++ (decimal id ++ codes "\n
 -- a file, the number of bytes before a fault, and the name of the fault
 abbrev pub malformed_line : List ℕ → ℕ → List ℕ → List ℕ
 malformed_line file at fault = codes "malformed " ++ (file ++ (codes " at " ++ (decimal at ++ (codes " " ++ (fault ++ codes "\n")))))
+
+-- the number of a function, or `-` outside functions
+abbrev pub function_text : Option ℕ → List ℕ
+function_text None = codes "-"
+function_text (Some n) = decimal n
+
+-- a file, the function of a violation, its place, and the name of the rule
+abbrev pub invalid_line : List ℕ → Option ℕ → ℕ → List ℕ → List ℕ
+invalid_line file func at broken =
+    codes "invalid " ++ (file ++ (codes " function " ++ (function_text func ++ (codes " at " ++ (decimal at ++ (codes " " ++ (broken ++ codes "\n")))))))
+
+-- a file, and why its module does not start
+abbrev pub start_line : List ℕ → List ℕ → List ℕ
+start_line file cause = codes "start " ++ (file ++ (codes " " ++ (cause ++ codes "\n")))
 
 -- no file, or a last file that exports no `main`
 abbrev pub no_main_line : List ℕ

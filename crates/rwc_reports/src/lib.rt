@@ -2,7 +2,8 @@
 //! Laws: words and files report exactly one job; what its status says; what holds of today's programs alone.
 #![tactic(auto)]
 
-ghost use Rattle.rwc_reports.specs.RunRows.{SevenIsReported, SixAreEnough, FiveAreSpent, TrapIsReported};
+ghost use Rattle.rwc_reports.specs.RunRows.{SevenIsReported, SixAreEnough, FiveAreSpent, TrapIsReported, WorkedRefusals};
+ghost use Rattle.rwc_reports.specs.ExecutionLaws.{BinariesRun, OneExecution, OneProgramRun, OneShow, ShownIsCanonical};
 ghost use Rattle.rwc_reports.specs.Laws.{OneReport, SomeReport, StatusesOfCommands, TypedIsBuilt, ModuleIsDumped, FaultIsRefused, DumpedIsModule, LeadsToLone, ProgramsEnd, NoneTooLong, NoTypeTold};
 
 /// A law: words and told files report one job, where the contents of the files are bytes, and one at most. So each call
@@ -39,11 +40,32 @@ pub fn lone_programs()
     ensures untyped { NoTypeTold }
 {}
 
-/// Rows, computed: the lines of a run that ends in a value or a trap, and of one that goes on after all its steps; this
-/// project's own.
+/// A law: the execution of a told binary reports one job, of status 0, 3, 6, 7 or 9, where the contents of the files are
+/// bytes; this project's own.
+pub fn one_execution()
+    ensures { OneExecution }
+{}
+
+/// A law on today's programs: the run of one reports one job, as its lowered module's; and the binary of the program
+/// spells that module, which is valid and starts, so that no run is refused for its binary; this project's own.
+pub fn one_program_run()
+    ensures one { OneProgramRun }
+    ensures itself { BinariesRun }
+{}
+
+/// A law: the showing of a told source reports one job, of status 0, 1 or 3, and its lines are the whole canonical text;
+/// this project's own.
+pub fn one_show()
+    ensures one { OneShow }
+    ensures whole { ShownIsCanonical }
+{}
+
+/// Rows, computed: the lines of a run that ends in a value or a trap, and of one that goes on after all its steps; those of
+/// binaries that are invalid or do not start; this project's own.
 pub fn worked_runs()
     ensures seven { SevenIsReported }
     ensures six { SixAreEnough }
     ensures five { FiveAreSpent }
     ensures trap { TrapIsReported }
+    ensures refusals { WorkedRefusals }
 {}

@@ -1,4 +1,4 @@
-use Rattle.std.proofs.Common.{◌≡◌, ◌<◌, ◌+◌, ℕ, List, [], ◌∷◌, ◌++◌, ap, sym, ◌∙◌, arith}
+use Rattle.std.proofs.Common.{◌≡◌, ◌<◌, ◌+◌, ℕ, List, [], ◌∷◌, ◌++◌, refl, ap, sym, ◌∙◌, arith}
 use Rattle.std.specs.Prelude.{codes, pos}
 use Rattle.std.proofs.lemmas.Fmt.{decimal_digit}
 use Rattle.machine_steps.specs.declared.End.TheVariants.{Value, Trap}
@@ -6,6 +6,7 @@ use Rattle.machine_steps.specs.declared.Trap.TheVariants.{Overflow}
 use Rattle.rwc_reports.specs.Acts.{put}
 use Rattle.rwc_reports.specs.Jobs.{Job}
 use Rattle.rwc_reports.specs.Runs.{ended, spent, printed_line, after_line, end_text}
+use Rattle.rwc_reports.specs.Steps.{Refused}
 use Rattle.rwc_reports.proofs.worked_runs.Goals as goal
 
 seven_line : printed_line 7 ≡ codes "7\n"
@@ -39,3 +40,18 @@ pub returns-clause-trap : goal.returns-clause-trap
 returns-clause-trap c run e =
     ended 4 [] (Trap Overflow) (omega arith) e.going e.ended
     (ap (λ (l : List ℕ). let j : Job = record { acts = put l ∷ []; line = []; status = 6 } in j) (sym (after_digit (codes "trap overflow") 4 (omega arith))))
+
+abbrev nine : List ℕ → Refused
+nine line = record { status = 9; line = line }
+
+abbrev invalid_with : List ℕ → List ℕ → List ℕ → Refused
+invalid_with func at broken = nine (codes "invalid " ++ (codes "a.wasm" ++ (codes " function " ++ (func ++ (codes " at " ++ (at ++ (codes " " ++ (broken ++ codes "\n"))))))))
+
+pub returns-clause-refusals : goal.returns-clause-refusals
+returns-clause-refusals c = record {
+  in_function = ap (λ (d : List ℕ). invalid_with d d (codes "TypeIndex")) (decimal_digit 1 (omega arith));
+  outside = ap (λ (d : List ℕ). invalid_with (codes "-") d (codes "ManyMemories")) (decimal_digit 0 (omega arith));
+  imported = ap (λ (d : List ℕ). nine (codes "start " ++ (codes "a.wasm" ++ (codes " " ++ ((codes "import " ++ d) ++ codes "\n"))))) (decimal_digit 2 (omega arith));
+  segment = ap (λ (d : List ℕ). nine (codes "start " ++ (codes "x" ++ (codes " " ++ ((codes "segment " ++ d) ++ codes "\n"))))) (decimal_digit 0 (omega arith));
+  no_main = refl;
+}
