@@ -1,5 +1,5 @@
-use Rattle.rich_rights.proofs.Counted.{values, swapped, split}
-use Rattle.rich_rights.proofs.rights_are_counted.Goals as goal
+use Rattle.rich_rights_laws.proofs.Counted.{values, swapped, split}
+use Rattle.rich_rights_laws.proofs.rights_are_counted.Goals as goal
 
 pub returns-clause-values : goal.returns-clause-values
 returns-clause-values c = values

@@ -1,6 +1,6 @@
 -- The rows, computed.
 use Rattle.std.proofs.Common.{refl}
-use Rattle.rich_rights.specs.Rows.{ValuesCount, SwappedCount, SplitCount}
+use Rattle.rich_rights_laws.specs.Rows.{ValuesCount, SwappedCount, SplitCount}
 
 pub values : ValuesCount
 values = ((refl, refl, refl), (refl, refl, refl))
