@@ -3,4 +3,4 @@
 
 mod laws;
 
-pub use laws::cell_rows_inverted;
+pub use laws::{body_rows_inverted, cell_rows_inverted};
