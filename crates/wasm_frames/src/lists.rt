@@ -24,7 +24,13 @@ pub fn open_block<'a>(
     ensures stays { OnOk result (StaysInCall frames.old frames.new) }
     ensures unchanged { OnErr result (frames.new ≡ frames.old) }
 {
-    enter(&mut frames.values, &mut frames.levels, Aim::Past, ty.is_some(), rest)?;
+    enter(
+        &mut frames.values,
+        &mut frames.levels,
+        Aim::Past,
+        ty.is_some(),
+        rest,
+    )?;
     frames.code = body;
     Ok(())
 }
@@ -40,7 +46,13 @@ pub fn open_loop<'a>(
     ensures stays { OnOk result (StaysInCall frames.old frames.new) }
     ensures unchanged { OnErr result (frames.new ≡ frames.old) }
 {
-    enter(&mut frames.values, &mut frames.levels, Aim::Back(body), ty.is_some(), rest)?;
+    enter(
+        &mut frames.values,
+        &mut frames.levels,
+        Aim::Back(body),
+        ty.is_some(),
+        rest,
+    )?;
     frames.code = body;
     Ok(())
 }

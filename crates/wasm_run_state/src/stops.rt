@@ -6,8 +6,8 @@ ghost use Rattle.wasm_execution.specs.Control.{reason, told_reason};
 ghost use Rattle.wasm_run_state.specs.States.{ActsTo};
 
 use crate::state::State;
-use machine_steps::{End, Trap};
 use machine_runs::Turn;
+use machine_steps::{End, Trap};
 
 /// Why `unreachable` was reached, by the number that tells it; this project's own.
 fn reason(number: u64) -> Trap

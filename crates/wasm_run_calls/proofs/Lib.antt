@@ -1,0 +1,5 @@
+pub mod Leading
+pub mod Giving
+pub mod Calling
+pub mod Branching
+pub mod Popping
