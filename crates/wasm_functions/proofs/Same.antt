@@ -5,7 +5,7 @@ use Rattle.wasm_ast.specs.declared.types.FuncType.{FuncType}
 use Rattle.wasm_ast.specs.declared.types.ValTy.{ValTy}
 use Rattle.wasm_ast.specs.declared.types.ValTy.TheVariants.{I32, I64}
 use Rattle.wasm_ast.specs.declared.modules.WModule.{WModule}
-use Rattle.wasm_execution.specs.Types.{is_same_value_type, are_same_value_types, is_same_result, is_same_type}
+use Rattle.wasm_ast.specs.SameTypes.{is_same_value_type, are_same_value_types, is_same_result, is_same_type}
 use Rattle.wasm_ast.specs.contracts.types.ValTyPartialEq.TheImpl.{eq-value}
 use lib.Pointwise.{pointwise}
 use Rattle.wasm_functions.specs.Functions.{has_type}

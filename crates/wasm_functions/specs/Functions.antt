@@ -11,7 +11,8 @@ use Rattle.wasm_typing.specs.Heights.{height_of}
 use Rattle.wasm_execution.specs.Calls.{declared}
 use Rattle.wasm_execution.specs.Environments as machine
 use Rattle.wasm_execution.specs.Environments.{is_func, is_global}
-use Rattle.wasm_execution.specs.Types.{is_same_type, results_of}
+use Rattle.wasm_execution.specs.Types.{results_of}
+use Rattle.wasm_ast.specs.SameTypes.{is_same_type}
 use Rattle.wasm_functions.specs.declared.function.Function.{Function}
 use Rattle.wasm_functions.specs.declared.function.Body.{Body}
 

@@ -1,6 +1,6 @@
 //! What steps look up.
 ghost use Rattle.std.specs.Prelude.{◌≡◌, None, Some, slice_get, IfOk, MatchOption};
-ghost use Rattle.wasm_execution.specs.Types.{is_same_type};
+ghost use Rattle.wasm_ast.specs.SameTypes.{is_same_type};
 ghost use Rattle.wasm_execution.specs.Environments.{environment_of, function_at, most_pages_of, trap_code_of};
 ghost use Rattle.wasm_functions.specs.Functions.{IsFunction, has_type};
 

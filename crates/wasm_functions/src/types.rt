@@ -1,6 +1,7 @@
 //! Function types.
 ghost use Rattle.std.specs.Prelude.{◌≡◌};
-ghost use Rattle.wasm_execution.specs.Types.{is_same_type, are_same_value_types, is_same_result, takes_and_gives};
+ghost use Rattle.wasm_execution.specs.Types.{takes_and_gives};
+ghost use Rattle.wasm_ast.specs.SameTypes.{is_same_type, are_same_value_types, is_same_result};
 
 use wasm_ast::{FuncType, ValTy};
 

@@ -12,7 +12,8 @@ use Rattle.wasm_typing.specs.Contexts.{context_of}
 use Rattle.wasm_typing.specs.declared.context.Context.{Context}
 use Rattle.wasm_execution.specs.Configurations.{Here, TheEnd, Config, Event, Print, prints}
 use Rattle.wasm_execution.specs.Environments.{Environment, Function, environment_of, function_at}
-use Rattle.wasm_execution.specs.Turns.{first_or_zero, with_found}
+use Rattle.wasm_execution.specs.Turns.{first_or_zero}
+use Rattle.machine_steps.specs.Steps.{with_found}
 use Rattle.wasm_execution.specs.Calls.{entered, calls, call, call_direct}
 use Rattle.wasm_machine_typing.specs.Lists.{count_beneath}
 use Rattle.wasm_machine_typing.specs.Configurations.{of_code}

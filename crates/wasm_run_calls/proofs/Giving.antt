@@ -15,7 +15,8 @@ use Rattle.wasm_typing.specs.declared.context.Context.{Context}
 use Rattle.wasm_execution.specs.Types.{results_of}
 use Rattle.wasm_execution.specs.Configurations.{Here, Bottom, TheEnd, ThenCall, Store, Config, Event, prints}
 use Rattle.wasm_execution.specs.Environments.{Environment, Function, environment_of, function_at}
-use Rattle.wasm_execution.specs.Turns.{first_or_zero, with_found, with_all}
+use Rattle.wasm_execution.specs.Turns.{first_or_zero}
+use Rattle.machine_steps.specs.Steps.{with_found, with_all}
 use Rattle.wasm_execution.specs.Calls.{entered, returns, give, return_now, return_at_end, ends_with}
 use Rattle.wasm_machine_typing.specs.Lists.{count_beneath}
 use Rattle.wasm_machine_typing.specs.Configurations.{of_code}

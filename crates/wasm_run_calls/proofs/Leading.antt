@@ -13,7 +13,7 @@ use Rattle.wasm_typing.specs.Heights.{height_of}
 use Rattle.wasm_execution.specs.Types.{results_of}
 use Rattle.wasm_execution.specs.Configurations.{Here, Store, Config, Event, Called, Returned, prints}
 use Rattle.wasm_execution.specs.Environments.{Environment, Function, function_at, is_allocator}
-use Rattle.wasm_execution.specs.Turns.{with_found, with_none, with_all}
+use Rattle.machine_steps.specs.Steps.{with_found, with_none, with_all}
 use Rattle.wasm_execution.specs.Calls.{calls, returns, give, return_now, return_at_end, ends_with}
 use Rattle.wasm_machine_typing.specs.Configurations.{of_code}
 use Rattle.wasm_run_state.specs.declared.state.State.{State}

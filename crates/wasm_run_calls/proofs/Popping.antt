@@ -10,10 +10,11 @@ use Rattle.machine_runs.specs.declared.answers.Turn.TheVariants as answer
 use Rattle.wasm_ast.specs.declared.types.FuncType.{FuncType}
 use Rattle.wasm_ast.specs.declared.modules.WModule.{WModule}
 use Rattle.wasm_ast.specs.declared.instructions.WInstr.{WInstr}
-use Rattle.wasm_execution.specs.Types.{is_same_type}
+use Rattle.wasm_ast.specs.SameTypes.{is_same_type}
 use Rattle.wasm_execution.specs.Configurations.{Here, Config, Event, prints}
 use Rattle.wasm_execution.specs.Environments.{Environment, Function, environment_of, function_at}
-use Rattle.wasm_execution.specs.Turns.{with_found, with_one, traps}
+use Rattle.wasm_execution.specs.Turns.{traps}
+use Rattle.machine_steps.specs.Steps.{with_found, with_one}
 use Rattle.wasm_execution.specs.Calls.{call, call_direct, call_typed, call_indirect}
 use Rattle.wasm_execution.specs.Control.{branch_to, branch_if, branch_table}
 use Rattle.wasm_values.specs.Stacked.{Stacked}

@@ -12,7 +12,7 @@ use Rattle.wasm_ast.specs.declared.instructions.WInstr.{WInstr}
 use Rattle.wasm_typing.specs.Contexts.{body_context, context_of}
 use Rattle.wasm_typing.specs.Heights.{height_of}
 use Rattle.wasm_execution.specs.Configurations.{Here, Config, Event, Print, prints}
-use Rattle.wasm_execution.specs.Types.{is_same_type}
+use Rattle.wasm_ast.specs.SameTypes.{is_same_type}
 use Rattle.wasm_execution.specs.Turns.{first_or_zero}
 use Rattle.wasm_execution.specs.Environments.{Environment, Function, environment_of, function_at}
 use Rattle.wasm_execution.specs.Calls.{give}
