@@ -69,9 +69,9 @@ is_func export_kind.Func = true
 is_func _ = false
 
 -- the index that is exported under this name, as a thing of this kind
-abbrev pub exported_index : (ExportKind → Bool) → List ℕ → List Export → Option ℕ
-exported_index is_kind name [] = None
-exported_index is_kind name (e ∷ es) = if is_kind e.kind then (if bytes_eq name e.name then Some e.index else exported_index is_kind name es) else exported_index is_kind name es
+abbrev pub exported : (ExportKind → Bool) → List ℕ → List Export → Option ℕ
+exported is_kind name [] = None
+exported is_kind name (e ∷ es) = if is_kind e.kind then (if bytes_eq name e.name then Some e.index else exported is_kind name es) else exported is_kind name es
 
 -- this global, where it is an i32
 abbrev pub if_i32 : List WGlobal → ℕ → Option ℕ
@@ -79,7 +79,7 @@ if_i32 gs n = elim (slice_get gs n) [ None ↦ None | Some g ↦ elim g.ty [ I32
 
 -- the global that is exported as the i32 `trap_code`; a module that starts imports no global (this project's own)
 abbrev pub trap_code_of : WModule → Option ℕ
-trap_code_of m = elim (exported_index is_global (codes "trap_code") m.exports) [ None ↦ None | Some n ↦ if_i32 m.globals n ]
+trap_code_of m = elim (exported is_global (codes "trap_code") m.exports) [ None ↦ None | Some n ↦ if_i32 m.globals n ]
 
 -- the lesser of the declared maximum and 1,024 pages (the limit is this project's own)
 abbrev pub most_pages_of : List Limits → ℕ

@@ -15,7 +15,7 @@ use Rattle.wasm_ast.specs.declared.modules.WModule.{WModule}
 use Rattle.wasm_execution.specs.Types.{takes_and_gives}
 use Rattle.wasm_ast.specs.SameTypes.{is_same_type}
 use Rattle.wasm_execution.specs.Configurations.{TheEnd, ThenCall, Store, Config}
-use Rattle.wasm_execution.specs.Environments.{Environment, environment_of, function_at, exported_index, is_func}
+use Rattle.wasm_execution.specs.Environments.{Environment, environment_of, function_at, exported, is_func}
 use Rattle.wasm_execution.specs.Imports.{is_print}
 use Rattle.wasm_execution.specs.Calls.{entered}
 
@@ -107,7 +107,7 @@ start_main m main code = elim m.start [
 
 -- the function that is exported as `main` takes nothing and gives an i64
 abbrev pub start_exported : WModule → Start
-start_exported m = elim (exported_index is_func (codes "main") m.exports) [
+start_exported m = elim (exported is_func (codes "main") m.exports) [
   | None ↦ NoMain
   | Some main ↦ elim (code_of_type (environment_of m) (takes_and_gives [] (Some I64)) main) [
     | None ↦ NoMain

@@ -10,7 +10,7 @@ use Rattle.wasm_typing.specs.Contexts.{context_of}
 use Rattle.wasm_execution.specs.Types.{takes_and_gives}
 use Rattle.wasm_ast.specs.SameTypes.{is_same_type}
 use Rattle.wasm_execution.specs.Configurations.{TheEnd, ThenCall, Config}
-use Rattle.wasm_execution.specs.Environments.{Function, environment_of, function_at, exported_index, is_func}
+use Rattle.wasm_execution.specs.Environments.{Function, environment_of, function_at, exported, is_func}
 use Rattle.wasm_execution.specs.Imports.{is_print}
 use Rattle.wasm_execution.specs.Starts.{Start, UnknownImport, SegmentOut, NoMain, NoStartFunction, Begins, first_failing, first_out, first_store, code_of_type, start_main, start_exported}
 use Rattle.wasm_execution.specs.Calls.{entered}
@@ -83,7 +83,7 @@ valid_starts_typed m c valid profile q =
     let prints = are_prints m.types m.imports 0 a.0 in
     let b = segments_back (first_out m) (start_exported m) c a.1 in
     let env = environment_typed m valid profile prints in
-    let x = main_back (exported_index is_func (codes "main") m.exports) _ c b.1 in
+    let x = main_back (exported is_func (codes "main") m.exports) _ c b.1 in
     let y = main_back (code_of_type (environment_of m) (takes_and_gives [] (Some I64)) x.0) (start_main m x.0) c x.2 in
     let there = typed_back (function_at (environment_of m) x.0) (takes_and_gives [] (Some I64)) y.0 y.1 in
     record { environment = env; config = started m env (store_typed m valid profile prints b.0) x.0 y.0 there m.start c y.2 }
