@@ -8,7 +8,8 @@ use Rattle.wasm_ast.specs.declared.modules.Code.{Code}
 use Rattle.wasm_ast.specs.declared.modules.WModule.{WModule}
 use Rattle.wasm_grammar.specs.Profile.{IsInProfile}
 use Rattle.wasm_typing.specs.Modules.{IsValid}
-use Rattle.wasm_execution.specs.Types.{is_same_type, takes_and_gives}
+use Rattle.wasm_execution.specs.Types.{takes_and_gives}
+use Rattle.wasm_ast.specs.SameTypes.{is_same_type}
 use Rattle.wasm_execution.specs.Calls.{entered}
 use Rattle.wasm_execution.specs.Configurations.{TheEnd, ThenCall}
 use Rattle.wasm_execution.specs.Environments as machine

@@ -17,7 +17,8 @@ use Rattle.wasm_typing.specs.declared.rule.WRule.TheVariants.{FuncIndex, StartTy
 use Rattle.wasm_typing.specs.Contexts.{context_of, imported_globals, imported_memories, imported_tables}
 use Rattle.wasm_typing.specs.Fields.{breaks_unless, element_rule, export_rule, function_rule, global_rule, import_rule, memory_rule, start_rule, table_rule}
 use Rattle.wasm_typing.specs.Modules.{Fault, IsValid, earliest, first_alone, first_fault, start_entries}
-use Rattle.wasm_execution.specs.Types.{is_same_type, takes_and_gives}
+use Rattle.wasm_execution.specs.Types.{takes_and_gives}
+use Rattle.wasm_ast.specs.SameTypes.{is_same_type}
 use Rattle.wasm_execution.specs.Environments.{Function, environment_of, function_at, function_in, functions_of, imported, imported_functions, own_functions}
 use Rattle.wasm_execution.specs.Imports.{is_print, prints_i64}
 use Rattle.wasm_execution.specs.Starts.{code_of_type, first_failing}
