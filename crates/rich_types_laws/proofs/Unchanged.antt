@@ -39,25 +39,25 @@ slots_of (Struct' m ss) = items-the_row-Slot _ ss
 slots_of h = []
 
 -- a form is made of what stands in it
-whole-Tuple : (m : _) (ts : _) → Tuple (items-the_row-Ty _ ts) ≡ Tuple' m ts
+pub whole-Tuple : (m : _) (ts : _) → Tuple (items-the_row-Ty _ ts) ≡ Tuple' m ts
 unfolding out-Pre parts_of denote.Hole.Carrier.out
 whole-Tuple m ts =
     let e : Tuple (shown-the_row-Ty-1 m ts) ≡ Tuple' m ts = sym (rolls-Tuple (shown-the_row-Ty-1 m ts)) ∙ roll-out-Pre (Tuple' m ts) in
     ap Tuple (sym (ap parts_of e) ∙ items_hidden-the_row-Ty-1 (shown-the_row-Ty-1 m ts)) ∙ e
 
-whole-Variant : (m : _) (ts : _) → Variant (items-the_row-Ty _ ts) ≡ Variant' m ts
+pub whole-Variant : (m : _) (ts : _) → Variant (items-the_row-Ty _ ts) ≡ Variant' m ts
 unfolding out-Heap cases_of denote.Hole.Carrier.out
 whole-Variant m ts =
     let e : Variant (shown-the_row-Ty-1 m ts) ≡ Variant' m ts = sym (rolls-Variant (shown-the_row-Ty-1 m ts)) ∙ roll-out-Heap (Variant' m ts) in
     ap Variant (sym (ap cases_of e) ∙ items_hidden-the_row-Ty-1 (shown-the_row-Ty-1 m ts)) ∙ e
 
-whole-Struct : (m : _) (ss : _) → Struct (items-the_row-Slot _ ss) ≡ Struct' m ss
+pub whole-Struct : (m : _) (ss : _) → Struct (items-the_row-Slot _ ss) ≡ Struct' m ss
 unfolding out-Heap slots_of denote.Hole.Carrier.out
 whole-Struct m ss =
     let e : Struct (shown-the_row-Slot-0 m ss) ≡ Struct' m ss = sym (rolls-Struct (shown-the_row-Slot-0 m ss)) ∙ roll-out-Heap (Struct' m ss) in
     ap Struct (sym (ap slots_of e) ∙ items_hidden-the_row-Slot-0 (shown-the_row-Slot-0 m ss)) ∙ e
 
-whole-Code : (a : _) (bs : List Binder) (m : _) (ps : _) (n : _) (rs : _) → Code (record { binders = bs; params = items-the_row-Ty _ ps; results = items-the_row-Ty _ rs }) ≡ Code' a (more_of-FunType bs m ps n rs end_of-FunType)
+pub whole-Code : (a : _) (bs : List Binder) (m : _) (ps : _) (n : _) (rs : _) → Code (record { binders = bs; params = items-the_row-Ty _ ps; results = items-the_row-Ty _ rs }) ≡ Code' a (more_of-FunType bs m ps n rs end_of-FunType)
 unfolding out-Pre params_of results_of hidden-the_row-FunType-3 shown-the_row-FunType-3 denote.Hole.Carrier.out denote.Hole.Carrier.hidden denote.Hole.Carrier.shown
 whole-Code a bs m ps n rs =
     let e : Code (record { binders = bs; params = shown-the_row-Ty-1 m ps; results = shown-the_row-Ty-1 n rs }) ≡ Code' a (more_of-FunType bs m ps n rs end_of-FunType) = sym (rolls-Code (record { binders = bs; params = shown-the_row-Ty-1 m ps; results = shown-the_row-Ty-1 n rs })) ∙ roll-out-Pre (Code' a (more_of-FunType bs m ps n rs end_of-FunType)) in

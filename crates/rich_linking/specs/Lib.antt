@@ -1,0 +1,4 @@
+pub mod Numbers
+pub mod Linked
+pub mod TypedPrograms
+pub mod Rows

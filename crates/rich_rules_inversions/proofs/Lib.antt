@@ -1,0 +1,4 @@
+pub mod Takers
+pub mod Cells
+pub mod MoreTakers
+pub mod Bodies

@@ -1,0 +1,4 @@
+pub mod Compared
+pub mod Formed
+pub mod Decided
+pub mod Unique

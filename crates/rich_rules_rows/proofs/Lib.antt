@@ -1,0 +1,10 @@
+pub mod Read
+pub mod Plain
+pub mod Variables
+pub mod Control
+pub mod Calls
+pub mod Locations
+pub mod Cells
+pub mod Fields
+pub mod Programs
+pub mod Notes
