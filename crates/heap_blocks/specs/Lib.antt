@@ -1,0 +1,5 @@
+pub mod Blocks
+pub mod FreeLists
+pub mod Allocation
+pub mod Laws
+pub mod Rows
