@@ -15,7 +15,8 @@ use Rattle.rich_rules.proofs.RowEquations.{row-LocalGet, row-LocalTake, row-Loca
 use Rattle.rich_rules_inversions.specs.Cells.{Goes}
 use Rattle.rich_rules_inversions.proofs.Bodies.{rows}
 use Rattle.rich_reduction.specs.Configurations.{Val, Empty, Here, Config, Event}
-use Rattle.rich_reduction.specs.Turns.{with_found, with_one, goes_on}
+use Rattle.rich_reduction.specs.Turns.{goes_on}
+use Rattle.machine_steps.specs.Steps.{with_found, with_one}
 use Rattle.rich_reduction.specs.Plain.{put, put_local}
 use Rattle.rich_rights.specs.Rights.{Right, rights_to, count, count_all}
 use Rattle.rich_rights_laws.proofs.Sums.{values}
