@@ -6,12 +6,12 @@ use Rattle.rw_io.specs.Files.{NamedFile}
 use Rattle.rw_io.specs.States.{ShelfState, SinkState}
 use Rattle.words.specs.Words.{Command, files_of, SpellsCommand, SpellNothing}
 use Rattle.words.proofs.SomeCommand.{command_or_none}
-use Rattle.rwc.specs.declared.ending.Done.{Done}
-use Rattle.rwc.specs.declared.ending.Done.TheVariants.{Finished, Trapped, Spent}
-use Rattle.rwc.specs.declared.ending.Stop.{Stop}
-use Rattle.rwc.specs.declared.ending.Stop.TheVariants.{Refused as IsRefused, Unread, Unwritten, Memory}
-use Rattle.rwc.specs.Kept.{EndsBy, KeepsWords, command, no_command, no_memory}
-use Rattle.rwc.specs.Stops.{IfStop, stop_status, stop_line, status_of, line_of}
+use Rattle.rwc_acts.specs.declared.ending.Done.{Done}
+use Rattle.rwc_acts.specs.declared.ending.Done.TheVariants.{Finished, Trapped, Spent}
+use Rattle.rwc_acts.specs.declared.ending.Stop.{Stop}
+use Rattle.rwc_acts.specs.declared.ending.Stop.TheVariants.{Refused as IsRefused, Unread, Unwritten, Memory}
+use Rattle.rwc_acts.specs.Kept.{EndsBy, KeepsWords, command, no_command, no_memory}
+use Rattle.rwc_acts.specs.Stops.{IfStop, stop_status, stop_line, status_of, line_of}
 use Rattle.rwc_reports.specs.Acts.{Outside, outside_of}
 use Rattle.rwc_reports.specs.Answers.{files_for, statuses_of, CallEnds, IsAnswer, MayAnswer, ReadFails}
 use Rattle.rwc_reports.specs.Endings.{KeepsTo, carries_out, unread, unbegun, whole, Tells, WriteRose}

@@ -6,15 +6,14 @@ ghost use Rattle.words.specs.Words.{HasFiles};
 ghost use Rattle.rwc_reports.specs.Acts.{outside_of};
 ghost use Rattle.rwc_reports.specs.Endings.{CarriesOut, WriteRose};
 ghost use Rattle.rwc_reports.specs.Reports.{build_job};
-ghost use Rattle.rwc.specs.Kept.{KeepsCommand};
-ghost use Rattle.rwc.specs.Stops.{IfStopped, status_of, line_of};
+ghost use Rattle.rwc_acts.specs.Kept.{KeepsCommand};
+ghost use Rattle.rwc_acts.specs.Stops.{IfStopped, status_of, line_of};
 
-use crate::compile::compile;
-use crate::ending::{Done, Stop};
-use crate::lines;
-use crate::perform::{append_piece, create_file, put_piece};
 use lower::Pages;
 use rw_io::{Shelf, Sink};
+use rwc_acts::{Done, Stop, append_piece, create_file, put_piece};
+use rwc_lines::lines;
+use rwc_sources::compile;
 use std::alloc::Global;
 use words::Build;
 

@@ -1,26 +1,11 @@
 // The command `dump`: a binary is decoded, and a line is put for each of its counts.
-ghost use Rattle.std.specs.Prelude.{◌≡◌, ◌≢◌, ◌≤◌, List, [], ◌∷◌, length, map, string_bytes, IfOk, Ok};
-ghost use Rattle.wasm_grammar.specs.Nesting.{ModuleNestsAtMost, nesting_limit};
-ghost use Rattle.wasm_items.specs.Residuals.{no_memory};
 ghost use Rattle.words.specs.Words.{dump as dump_of};
-ghost use Rattle.rwc_reports.specs.Binaries.{BinaryDecodes, fault_name, malformed_refusal};
-ghost use Rattle.rwc_reports.specs.Dumps.{module_lines};
-ghost use Rattle.rwc_reports.specs.Reports.{LinesLead};
-ghost use Rattle.rwc_reports.specs.Sources.{max_file_length};
-ghost use Rattle.rwc_reports.specs.Steps.{Onward};
-ghost use Rattle.rwc.specs.Kept.{LoadsTo, KeepsCommand};
-ghost use Rattle.rwc.specs.Stops.{IfStop, IsStep, texts_of};
+ghost use Rattle.rwc_acts.specs.Kept.{KeepsCommand};
 
-use crate::ending::{Done, Stop};
-use crate::lines;
-use crate::load::load_file;
-use crate::perform::put_lines;
 use rw_io::{Shelf, Sink};
-use std::alloc::{AllocError, Global};
-use wasm_ast::WModule;
-use wasm_codec::is_canonical;
-use wasm_decode::decode;
-use wasm_reading::{DecodeError, DecodeFault};
+use rwc_acts::{Done, Stop, put_lines};
+use rwc_binaries::lines_of_file;
+use std::alloc::Global;
 
 /// Decodes a binary and puts its counts.
 pub fn dump<S: Shelf, O: Sink>(
@@ -34,70 +19,5 @@ pub fn dump<S: Shelf, O: Sink>(
     match lines_of_file(alloc, file, shelf) {
         Ok(lines) => put_lines(alloc, out, &lines),
         Err(stop) => Err(stop),
-    }
-}
-
-// The lines of the module that a file spells.
-fn lines_of_file<S: Shelf>(alloc: Global, file: &str, shelf: &mut S) -> Result<Vec<String>, Stop>
-    ensures { LoadsTo texts_of (λ told. LinesLead told file.now) (3 ∷ 9 ∷ []) file.now (S.state shelf.old) (S.state shelf.new) result }
-{
-    match load_file(alloc, shelf, file) {
-        Ok(bytes) => lines_of(alloc, file, &bytes),
-        Err(stop) => Err(stop),
-    }
-}
-
-// The lines of the module that bytes spell.
-fn lines_of(alloc: Global, file: &str, bytes: &[u8]) -> Result<Vec<String>, Stop>
-    requires { length bytes.now ≤ max_file_length }
-    ensures { IsStep texts_of (Onward (BinaryDecodes file.now bytes.now) (λ m r. r ≡ Ok (module_lines bytes.now m))) result }
-{
-    match decode(alloc, bytes) {
-        Ok(decoded) => match lines_of_module(alloc, bytes, decoded.module()) {
-            Ok(lines) => Ok(lines),
-            Err(_) => Err(Stop::Memory),
-        },
-        Err(error) => Err(refuse(alloc, file, error)),
-    }
-}
-
-// The lines of a module that was read from bytes.
-fn lines_of_module(alloc: Global, bytes: &[u8], m: &WModule) -> Result<Vec<String>, AllocError>
-    requires short { length bytes.now ≤ max_file_length }
-    requires nests { ModuleNestsAtMost nesting_limit m.now }
-    ensures { IfOk result (λ lines. map string_bytes lines.items ≡ module_lines bytes.now m.now) }
-{
-    let canonical = is_canonical(alloc, bytes, m)?;
-    lines::dump(alloc, m, canonical)
-}
-
-// The refusal of a binary that has this fault.
-fn refuse(alloc: Global, file: &str, error: DecodeError) -> Stop
-    ensures { IfStop result (λ status line. (error ≢ no_memory) × (status ≡ 9) × (line ≡ (malformed_refusal file.now error).line)) (λ _. ⊥) (λ _. ⊥) }
-{
-    if error.fault == DecodeFault::Memory {
-        return Stop::Memory;
-    }
-    let fault = name_of(error.fault);
-    Stop::refused(9, lines::malformed(alloc, file, error.at, fault))
-}
-
-// The name of a fault.
-fn name_of(fault: DecodeFault) -> &'static str
-    ensures { result.now ≡ fault_name fault }
-{
-    match fault {
-        DecodeFault::Truncated => "Truncated",
-        DecodeFault::BadMagic => "BadMagic",
-        DecodeFault::BadVersion => "BadVersion",
-        DecodeFault::BadLeb => "BadLeb",
-        DecodeFault::BadTag => "BadTag",
-        DecodeFault::BadOrder => "BadOrder",
-        DecodeFault::BadLength => "BadLength",
-        DecodeFault::BadUtf8 => "BadUtf8",
-        DecodeFault::CountMismatch => "CountMismatch",
-        DecodeFault::FloatOutside => "FloatOutside",
-        DecodeFault::LimitOutside => "LimitOutside",
-        DecodeFault::Memory => "Memory",
     }
 }

@@ -3,14 +3,8 @@
 #![tactic(auto)]
 
 mod build;
-mod compile;
 mod dump;
-mod ending;
-mod lines;
-mod load;
-mod perform;
-mod refusals;
 mod top;
 
-pub use ending::Status;
+pub use rwc_acts::Status;
 pub use top::rwc;

@@ -11,13 +11,13 @@ ghost use Rattle.rwc_reports.specs.Headlines.{Built};
 ghost use Rattle.rwc_reports.specs.Jobs.{Job};
 ghost use Rattle.rwc_reports.specs.Lines.{words_line};
 ghost use Rattle.rwc_reports.specs.Reports.{Reports};
-ghost use Rattle.rwc.specs.Kept.{KeepsCommand, KeepsWords};
-ghost use Rattle.rwc.specs.Stops.{stop_status, stop_line, status_of, line_of, IfStop};
+ghost use Rattle.rwc_acts.specs.Kept.{KeepsCommand, KeepsWords};
+ghost use Rattle.rwc_acts.specs.Stops.{stop_status, stop_line, status_of, line_of, IfStop};
 
 use crate::build::build;
 use crate::dump::dump;
-use crate::ending::{Done, Status, Stop};
 use rw_io::{Shelf, Sink, WriteStop, put_whole};
+use rwc_acts::{Done, Status, Stop};
 use std::alloc::Global;
 use words::{Command, read_words};
 

@@ -25,9 +25,10 @@ use std::io::{self, Write};
 
 fn main(rt: HostRuntime) -> io::Result<()> {
     let alloc = rt.alloc();
+    let cases = io::read_to_string(alloc, rt.reader())?;
     let mut out = io::writer(&rt);
-    for line in rt.lines(alloc) {
-        let case = read_case(alloc, line?.as_str())?;
+    for line in cases.lines() {
+        let case = read_case(alloc, line)?;
         out.write_all(&answer(alloc, case)?)?;
     }
     Ok(())

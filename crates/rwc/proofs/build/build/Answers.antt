@@ -1,6 +1,6 @@
 use Rattle.std.proofs.Common.{ℕ, List, [], ◌∷◌, inl, inr, refl, subst}
-use Rattle.rwc.proofs.Endings.{stopped, delivered, finished_zero, write_rose_from}
-use Rattle.rwc.specs.Stops.{status_of, line_of, bytes_of}
+use Rattle.rwc_acts.proofs.Endings.{stopped, delivered, finished_zero, write_rose_from}
+use Rattle.rwc_acts.specs.Stops.{status_of, line_of, bytes_of}
 use Rattle.words.specs.Commands.{spelled_source}
 use Rattle.rwc_reports.specs.Acts.{outside_of}
 use Rattle.rwc_reports.specs.Endings.{CarriesOut}

@@ -3,7 +3,7 @@ use Rattle.rwc_reports.specs.Acts.{Outside, create, append, put, after_act, outs
 use Rattle.rwc_reports.specs.Endings.{no_memory, whole}
 use Rattle.rwc_reports.specs.Lines.{wrote_line}
 use Rattle.rwc_reports.specs.Reports.{build_job}
-use Rattle.rwc.proofs.Endings.{broken}
+use Rattle.rwc_acts.proofs.Endings.{broken}
 use Rattle.rwc.proofs.build.deliver.Goals as goal
 
 pub returns-in_default-clause-carries_out : goal.returns-in_default-clause-carries_out

@@ -1,8 +1,8 @@
 use Rattle.std.proofs.Common.{List, [], ◌∷◌, inl, inr, map, string_bytes, refl, subst}
 use Rattle.std.specs.declared.alloc.Global.{Global}
 use Rattle.std.specs.declared.string.String.{String}
-use Rattle.rwc.proofs.Endings.{stopped, delivered, finished_zero, written_also, write_rose_from}
-use Rattle.rwc.specs.Stops.{status_of, line_of, texts_of}
+use Rattle.rwc_acts.proofs.Endings.{stopped, delivered, finished_zero, written_also, write_rose_from}
+use Rattle.rwc_acts.specs.Stops.{status_of, line_of, texts_of}
 use Rattle.rwc_reports.specs.Acts.{outside_of}
 use Rattle.rwc_reports.specs.Endings.{CarriesOut}
 use Rattle.rwc_reports.specs.Jobs.{lines_job}

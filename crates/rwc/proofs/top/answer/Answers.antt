@@ -1,9 +1,9 @@
 use Rattle.std.proofs.Common.{sym, subst}
 use Rattle.std.specs.declared.result.Result.{Result}
-use Rattle.rwc.specs.declared.ending.Done.{Done}
-use Rattle.rwc.specs.declared.ending.Stop.{Stop}
-use Rattle.rwc.specs.Stops.{status_of, line_of}
-use Rattle.rwc.proofs.Endings.{tells_nothing}
+use Rattle.rwc_acts.specs.declared.ending.Done.{Done}
+use Rattle.rwc_acts.specs.declared.ending.Stop.{Stop}
+use Rattle.rwc_acts.specs.Stops.{status_of, line_of}
+use Rattle.rwc_acts.proofs.Endings.{tells_nothing}
 use Rattle.rwc_reports.specs.Endings.{Tells}
 use Rattle.rwc.proofs.top.answer.Goals as goal
 

@@ -5,7 +5,7 @@ use Rattle.words.specs.declared.Command.{Command}
 use Rattle.words.specs.Commands.{spelled_command}
 use Rattle.words.specs.Found.{Finds}
 use Rattle.words.specs.Words.{SpellsCommand}
-use Rattle.rwc.specs.Kept.{command, no_command, no_memory}
+use Rattle.rwc_acts.specs.Kept.{command, no_command, no_memory}
 use Rattle.rwc.proofs.top.perform.Goals as goal
 
 pub returns-in-Ok-Some : goal.returns-in-Ok-Some

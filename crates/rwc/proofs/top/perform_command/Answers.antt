@@ -1,7 +1,7 @@
 use Rattle.std.proofs.Common.{sym, subst}
 use Rattle.words.specs.declared.Command.{Command}
 use Rattle.words.specs.Commands.{spelled_command}
-use Rattle.rwc.specs.Kept.{KeepsCommand}
+use Rattle.rwc_acts.specs.Kept.{KeepsCommand}
 use Rattle.rwc.proofs.top.perform_command.Goals as goal
 
 pub returns-in-Build : goal.returns-in-Build
