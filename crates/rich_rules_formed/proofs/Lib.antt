@@ -1,0 +1,9 @@
+pub mod Lists
+pub mod Forms
+pub mod Outcomes
+pub mod BodyRows
+pub mod CellRows
+pub mod BlockRows
+pub mod Rows
+pub mod Points
+pub mod Bodies
