@@ -1,0 +1,11 @@
+pub mod Moves
+pub mod Numbers
+pub mod Surroundings
+pub mod Labels
+pub mod Taken
+pub mod Cells
+pub mod Arrays
+pub mod Plain
+pub mod Rows
+pub mod Functions
+pub mod Worked

@@ -1,0 +1,5 @@
+pub mod ControlRows
+pub mod OpeningRows
+pub mod StructsRows
+pub mod ArraysRows
+pub mod GlobalsRows
