@@ -1,5 +1,5 @@
 -- The globals of a well-typed module are `unr`.
-use Rattle.std.proofs.Common.{◌≡◌, ℕ, suc, List, [], ◌∷◌, ◌++◌, Bool, true, false, None, Option, Some, map, refl, cond, length}
+use Rattle.std.proofs.Common.{◌≡◌, ℕ, suc, List, [], ◌∷◌, ◌++◌, Bool, true, false, None, Option, Some, map, refl, length}
 use Rattle.std.specs.Prelude.{IsTrue}
 use Rattle.rw_types.specs.declared.modules.FuncDef.{FuncDef}
 use Rattle.rw_types.specs.declared.modules.GlobalDef.{GlobalDef}

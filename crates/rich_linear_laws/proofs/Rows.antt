@@ -1,5 +1,5 @@
 -- Each row of the table exchanges operands in a named way.
-use Rattle.std.proofs.Common.{◌≡◌, [], ◌∷◌, refl, length}
+use Rattle.std.proofs.Common.{[], ◌∷◌, refl, length}
 use Rattle.rw_types.specs.declared.instrs.Instr.{Instr, Nop, Unreachable, Drop, Unit, Print, I32Const, I64Const, Num, Block', Loop', If', Br, BrIf, Return, LocalGet, LocalTake, LocalSet, GlobalGet, GlobalSet, Coderef, Inst, Call, CallIndirect, Qualify, RecFold, RecUnfold, Group, Ungroup, MemPack, MemUnpack', RefSplit, RefJoin, CapSplit, CapJoin, StructMalloc, StructFree, StructGet, StructSet, StructSwap, VariantMalloc, VariantCase', ArrayMalloc, ArrayGet, ArraySet, ArrayLen, ArrayFree, ExistPack, ExistUnpack'}
 use Rattle.rich_types.specs.Scopes.{scope_of}
 use Rattle.rich_rules.specs.Numbers.{num_sig}
