@@ -1,0 +1,4 @@
+pub mod Exchanged
+pub mod Rows
+pub mod Globals
+pub mod Bodies
