@@ -7,7 +7,7 @@ use Rattle.rw_types.specs.declared.types.Qual.TheVariants.{Unr, Lin}
 use Rattle.rw_types.specs.declared.types.Ty.{Ty, Of, Var, Rec', end_of-Ty, more_of-Ty}
 use Rattle.rich_types.specs.declared.variables.VariableKind.{VariableKind}
 use Rattle.rich_types.specs.Scopes.{Scope, memory_of}
-use Rattle.rich_types.specs.Sizes.{qual_under, variable_qual}
+use Rattle.rich_types.specs.Sizes.{variable_qual}
 use Rattle.rich_types.specs.Walks.{outside}
 use Rattle.rich_types.specs.Instances.{Substitution, substituting, raise, found_or}
 use Rattle.rich_types_laws.proofs.Composed.{look_out}

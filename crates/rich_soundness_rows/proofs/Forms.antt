@@ -1,22 +1,20 @@
 -- What a value of a type of some form is.
-use Rattle.std.proofs.Common.{◌≡◌, ℕ, suc, ◌+◌, List, [], ◌∷◌, Some, refl, sym, ap, ◌∙◌, subst, arith}
-use Rattle.std.specs.Prelude.{slice_get}
-use Rattle.wasm_operators.specs.declared.Width.{Width}
+use Rattle.std.proofs.Common.{◌≡◌, ℕ, refl, sym, ap, ◌∙◌, subst, arith}
 use Rattle.wasm_operators.specs.declared.Width.TheVariants.{W32, W64}
 use Rattle.wasm_num.specs.Widths.{IsWithin}
 use Rattle.rw_types.specs.declared.types.Heap.{Heap}
 use Rattle.rw_types.specs.declared.types.Mem.{Mem}
 use Rattle.rw_types.specs.declared.types.Mem.TheVariants.{L, U}
-use Rattle.rw_types.specs.declared.types.Pre.{Pre, I32, I64, Ref, Ptr, Cap, Own}
+use Rattle.rw_types.specs.declared.types.Pre.{I32, I64, Ref, Ptr, Cap, Own}
 use Rattle.rw_types.specs.declared.types.Priv.{Priv}
 use Rattle.rw_types.specs.declared.types.Qual.{Qual}
-use Rattle.rw_types.specs.declared.types.Qual.TheVariants.{Unr, Lin}
+use Rattle.rw_types.specs.declared.types.Qual.TheVariants.{Lin}
 use Rattle.rw_types.specs.declared.types.Ty.{Ty, Of}
 use Rattle.rich_reduction.specs.Configurations as value
 use Rattle.rich_reduction.specs.Configurations.{Val, Vals, Location}
 use Rattle.rich_soundness_values.specs.Heaps.{Heaps, name_in, name_of, Names, Stands}
-use Rattle.rich_soundness_values.specs.Values.{HasType, is_i32, is_i64, is_unit, is_tuple, is_ref, is_ptr, is_cap, is_own, is_fold, is_pack, is_code, is_instance}
-use Rattle.rich_soundness_values.specs.Laws.{Form, ANumber, AUnit, ATuple, AReference, AnAddress, ACapability, ARightToWrite, AFolded, APacked, AFunction, form_of, form_for}
+use Rattle.rich_soundness_values.specs.Values.{HasType, is_i32, is_i64, is_ref, is_ptr, is_cap, is_own}
+use Rattle.rich_soundness_values.specs.Laws.{ANumber, ATuple, AReference, AnAddress, ACapability, ARightToWrite, AFolded, APacked, AFunction, form_of, form_for}
 use Rattle.rich_soundness_values.proofs.Typed.{formed}
 
 number_form : (v : Val) → form_of v ≡ ANumber → (n : ℕ) × (v ≡ value.Number n)

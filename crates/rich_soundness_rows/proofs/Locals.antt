@@ -1,10 +1,9 @@
 -- Rows on locals.
-use Rattle.std.proofs.Common.{◌≡◌, ℕ, zero, suc, ◌+◌, List, [], ◌∷◌, Option, Some, None, Bool, true, false, refl, sym, ap, ◌∙◌, subst, arith}
+use Rattle.std.proofs.Common.{◌≡◌, ℕ, zero, suc, List, [], ◌∷◌, Option, Some, None, refl, ap, ◌∙◌, subst, arith}
 use Rattle.std.specs.Prelude.{slice_get, slice_set}
 use Rattle.rw_types.specs.declared.instrs.Instr.{LocalGet, LocalTake, LocalSet}
 use Rattle.rw_types.specs.declared.types.Qual.TheVariants.{Unr}
 use Rattle.rw_types.specs.declared.types.Ty.{Ty}
-use Rattle.machine_steps.specs.Steps.{Turn}
 use Rattle.rich_types.specs.Scopes.{scope_of}
 use Rattle.rich_types.specs.Instances.{Substitution}
 use Rattle.rich_rules.specs.Points.{Owner, OfFunction, OfGlobal, Outcome, Gives, Becomes}
@@ -14,18 +13,23 @@ use Rattle.rich_rules.specs.Variables.{local_get_row, local_take_row, local_set_
 use Rattle.rich_rules.proofs.RowEquations.{row-LocalGet, row-LocalTake, row-LocalSet}
 use Rattle.rich_rules_inversions.specs.Cells.{Goes}
 use Rattle.rich_rules_inversions.proofs.Bodies.{rows}
+<<<<<<< HEAD
 use Rattle.rich_reduction.specs.Configurations.{Val, Empty, Here, Config, Event}
 use Rattle.rich_reduction.specs.Turns.{goes_on}
 use Rattle.machine_steps.specs.Steps.{with_found, with_one}
+=======
+use Rattle.rich_reduction.specs.Configurations.{Val, Empty}
+use Rattle.rich_reduction.specs.Turns.{goes_on}
+use Rattle.machine_steps.specs.Steps.{with_found}
+>>>>>>> e7aeebac36fec96cd03ade0f5d34230408690361
 use Rattle.rich_reduction.specs.Plain.{put, put_local}
-use Rattle.rich_rights.specs.Rights.{Right, rights_to, count, count_all}
+use Rattle.rich_rights.specs.Rights.{Right, rights_to, count}
 use Rattle.rich_rights_laws.proofs.Sums.{values}
-use Rattle.rich_soundness_values.specs.Heaps.{Heaps, all_at, at, IsUnr}
-use Rattle.rich_soundness_values.specs.Values.{HasType, HaveTypes, no_types, more_types, is_unit}
+use Rattle.rich_soundness_values.specs.Heaps.{Heaps, all_at, at}
+use Rattle.rich_soundness_values.specs.Values.{HasType, HaveTypes, more_types, is_unit}
 use Rattle.rich_soundness_values.proofs.Typed.{no_rights}
-use Rattle.rich_soundness_points.specs.Good.{IsSafeAt}
 use Rattle.rich_soundness_rows.specs.Laws.{LocalRowsAreSafe}
-use Rattle.rich_soundness_rows.proofs.Moves.{Acts, ActsOn, moves, RowActs, safe}
+use Rattle.rich_soundness_rows.proofs.Moves.{ActsOn, moves, RowActs, safe}
 use Rattle.rich_soundness_rows.proofs.Closed.{unr_at}
 
 -- a row of functions' bodies goes on in a function alone

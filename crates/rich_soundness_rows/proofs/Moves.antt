@@ -1,5 +1,5 @@
 -- Rows that change operands and locals of the call that runs: what they show, without frames, is enough.
-use Rattle.std.proofs.Common.{◌≡◌, ℕ, ◌+◌, List, [], ◌∷◌, Bool, true, false, Option, Some, None, refl, sym, ap, ◌∙◌, subst, arith, drop}
+use Rattle.std.proofs.Common.{◌≡◌, ℕ, ◌+◌, List, [], ◌∷◌, Bool, true, false, Option, sym, ap, ◌∙◌, subst, arith, drop}
 use Rattle.rw_types.specs.declared.instrs.Instr.{Instr, Block', GlobalSet, Call}
 use Rattle.rw_types.specs.declared.types.Ty.{Ty}
 use Rattle.rw_program.specs.declared.linked.LinkedFunc.{LinkedFunc}
@@ -22,7 +22,7 @@ use Rattle.rich_rights.specs.Rights.{Right, rights_to, count_all}
 use Rattle.rich_soundness_values.specs.Heaps.{Heaps, Answer, all_at}
 use Rattle.rich_soundness_values.specs.Values.{HaveTypes}
 use Rattle.rich_soundness_points.specs.Programs.{Fits, AllFit, IsSound}
-use Rattle.rich_soundness_points.specs.Points.{closed, point_at, labels_at, GoesOn, InBody, Callers}
+use Rattle.rich_soundness_points.specs.Points.{closed, InBody, Callers}
 use Rattle.rich_soundness_points.specs.Good.{AreSet, Runs, in_body, in_own_list, sets_global, at_end, Good, Fine, IsSafeAt}
 
 -- what a row is told: it breaks no rule, and operands and locals have the types of its point, where names and closed types stand

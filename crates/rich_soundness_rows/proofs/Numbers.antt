@@ -1,8 +1,8 @@
 -- Rows of numbers.
-use Rattle.std.proofs.Common.{◌≡◌, ℕ, ◌+◌, List, [], ◌∷◌, ◌++◌, Option, Some, None, refl, sym, ap, ◌∙◌, subst, arith}
+use Rattle.std.proofs.Common.{◌≡◌, ℕ, List, [], ◌∷◌, ◌++◌, None, refl, sym, ap, ◌∙◌, subst, arith}
 use Rattle.std.specs.Prelude.{Result, Ok, Err, ◌==◌}
 use Rattle.wasm_operators.specs.declared.Width.{Width}
-use Rattle.wasm_operators.specs.declared.Width.TheVariants.{W32, W64}
+use Rattle.wasm_operators.specs.declared.Width.TheVariants.{W32}
 use Rattle.wasm_num.specs.declared.NumTrap.{NumTrap}
 use Rattle.wasm_num.specs.Widths.{IsWithin}
 use Rattle.wasm_num.specs.Operators.{unary, binary, compares, truth, converted, width_from, width_to}
@@ -24,7 +24,7 @@ use Rattle.rich_rules_inversions.proofs.Bodies.{rows}
 use Rattle.rich_reduction.specs.Configurations.{Val, Number, Here, Config}
 use Rattle.rich_reduction.specs.Turns.{leaves, traps}
 use Rattle.rich_reduction.specs.Numbers.{trap_of, apply}
-use Rattle.rich_soundness_values.specs.Heaps.{Heaps, all_at, at}
+use Rattle.rich_soundness_values.specs.Heaps.{Heaps, all_at}
 use Rattle.rich_soundness_values.specs.Values.{HasType, HaveTypes, more_types}
 use Rattle.rich_soundness_points.specs.Good.{IsSafeAt}
 use Rattle.rich_soundness_rows.proofs.Moves as move
@@ -126,12 +126,12 @@ module _ (n : NumName) (f : Frame) (hs : Heaps) (q : Point) (g : Substitution) (
       (λ a us b hv. moves _ None [] (Number (truth (a == 0)) ∷ us) ls e refl (given W32 beneath (truth_within (a == 0)) hv) locals (λ r i. omega arith))
   by_operator vs (operator.Compare op w) beneath h e = taken w vs (of_width w ∷ beneath) (ResultOf (operator.Compare op w)) h
       (λ b us y hu. taken w us beneath (λ ks. ResultOf (operator.Compare op w) (Number b ∷ ks)) hu
-        (λ a ks z hv. moves _ None [] (Number (truth (compares op w a b)) ∷ ks) ls e refl (given W32 beneath (truth_within (compares op w a b)) hv) locals (λ r i. omega arith)))
+      (λ a ks z hv. moves _ None [] (Number (truth (compares op w a b)) ∷ ks) ls e refl (given W32 beneath (truth_within (compares op w a b)) hv) locals (λ r i. omega arith)))
   by_operator vs (operator.Unary op w) beneath h e = taken w vs beneath (ResultOf (operator.Unary op w)) h
       (λ a us b hv. moves _ None [] (Number (unary op w a) ∷ us) ls e refl (given w beneath (stays_within.of_one op w a) hv) locals (λ r i. omega arith))
   by_operator vs (operator.Binary op w) beneath h e = taken w vs (of_width w ∷ beneath) (ResultOf (operator.Binary op w)) h
       (λ b us y hu. taken w us beneath (λ ks. ResultOf (operator.Binary op w) (Number b ∷ ks)) hu
-        (λ a ks z hv. answered w a b ks beneath (binary op w a b) hv (λ m is. stays_within.of_two op w a b m z y is) e))
+      (λ a ks z hv. answered w a b ks beneath (binary op w a b) hv (λ m is. stays_within.of_two op w a b m z y is) e))
   by_operator vs (operator.Convert op) beneath h e = taken (width_from op) vs beneath (ResultOf (operator.Convert op)) h
       (λ a us b hv. moves _ None [] (Number (converted op a) ∷ us) ls e refl (given (width_to op) beneath (stays_within.of_conversion op a b) hv) locals (λ r i. omega arith))
 

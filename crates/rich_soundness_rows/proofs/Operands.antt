@@ -1,7 +1,6 @@
 -- Rows that look at operands alone.
-use Rattle.std.proofs.Common.{◌≡◌, ℕ, ◌+◌, List, [], ◌∷◌, ◌++◌, Option, Some, None, true, false, refl, sym, ap, ◌∙◌, subst, arith}
+use Rattle.std.proofs.Common.{◌≡◌, ℕ, List, [], ◌∷◌, None, refl, sym, ap, ◌∙◌, subst, arith}
 use Rattle.rw_types.specs.declared.instrs.Instr.{Nop, Unreachable, Drop, Unit, Print, I32Const, I64Const, Qualify}
-use Rattle.rw_types.specs.declared.types.Mem.TheVariants.{L}
 use Rattle.rw_types.specs.declared.types.Pre.{Pre}
 use Rattle.rw_types.specs.declared.types.Qual.{Qual}
 use Rattle.rw_types.specs.declared.types.Qual.TheVariants.{Unr, Lin}
@@ -10,22 +9,17 @@ use Rattle.wasm_operators.specs.declared.Width.TheVariants.{W64}
 use Rattle.machine_steps.specs.declared.End.TheVariants.{Trap}
 use Rattle.machine_steps.specs.declared.Trap as machine
 use Rattle.rich_types.specs.Scopes.{scope_of}
-use Rattle.rich_types.specs.Sizes.{qual_under}
-use Rattle.rich_types.specs.Instances.{Substitution, substituting}
-use Rattle.rich_types.specs.Walks.{outside, walk_pre}
-use Rattle.rich_rules.specs.Points.{Frame, Point, Outcome, Gives}
+use Rattle.rich_rules.specs.Points.{Gives}
 use Rattle.rich_rules.specs.Table.{row}
 use Rattle.rich_rules.specs.Takers.{unr_i64}
 use Rattle.rich_rules.proofs.RowEquations.{row-Nop, row-Drop, row-Unit, row-Print, row-I32Const, row-I64Const, row-Qualify}
 use Rattle.rich_rules_inversions.proofs.Bodies.{rows}
-use Rattle.rich_reduction.specs.Configurations as value
-use Rattle.rich_reduction.specs.Configurations.{Val, Number, Empty, Here, Config, Print as said}
+use Rattle.rich_reduction.specs.Configurations.{Val, Number, Empty, Print as said}
 use Rattle.rich_soundness_values.specs.Heaps.{Heaps, all_at, at, IsUnr}
-use Rattle.rich_soundness_values.specs.Values.{HasType, HaveTypes, no_types, more_types, is_i32, is_i64, is_unit, is_tuple, is_ref, is_ptr, is_cap, is_own, is_fold, is_pack, is_code, is_instance}
+use Rattle.rich_soundness_values.specs.Values.{HasType, HaveTypes, more_types, is_i32, is_i64, is_unit, is_tuple, is_ref, is_ptr, is_cap, is_own, is_fold, is_pack, is_code, is_instance}
 use Rattle.rich_soundness_values.proofs.Typed.{no_rights}
-use Rattle.rich_soundness_points.specs.Good.{IsSafeAt}
 use Rattle.rich_soundness_rows.specs.Laws.{OperandRowsAreSafe}
-use Rattle.rich_soundness_rows.proofs.Moves.{Stands, ActsOn, moves, traps, RowActs, safe}
+use Rattle.rich_soundness_rows.proofs.Moves.{ActsOn, moves, traps, RowActs, safe}
 use Rattle.rich_soundness_rows.proofs.Widths.{number_taken}
 use Rattle.rich_soundness_rows.proofs.Closed.{unr_is, unr_at}
 

@@ -1,5 +1,5 @@
 -- Rows that take references and capabilities apart and put them together.
-use Rattle.std.proofs.Common.{◌≡◌, ℕ, ◌+◌, List, [], ◌∷◌, Option, Some, None, Bool, true, false, ◌&&◌, if◌then◌else◌, refl, sym, ap, ◌∙◌, subst, arith}
+use Rattle.std.proofs.Common.{◌≡◌, ℕ, List, [], ◌∷◌, None, Bool, true, ◌&&◌, if◌then◌else◌, refl, sym, ap, ◌∙◌, subst, arith}
 use Rattle.std.specs.Prelude.{◌==◌}
 use Rattle.std.proofs.lemmas.Bool.{eq-eqb}
 use Rattle.rw_types.specs.declared.instrs.Instr.{RefSplit, RefJoin, CapSplit, CapJoin}
@@ -24,10 +24,9 @@ use Rattle.rich_rules_inversions.proofs.Cells as cell
 use Rattle.rich_reduction.specs.Configurations.{Val, Ref, Ptr, Cap, Own, Location, Here, Config}
 use Rattle.rich_reduction.specs.Capabilities.{is_same_memory, is_same_location}
 use Rattle.rich_reduction.specs.Turns.{leaves}
-use Rattle.rich_rights.specs.Rights.{rights_to}
 use Rattle.rich_rights.proofs.Kept.{divided}
 use Rattle.rich_soundness_values.specs.Heaps.{Heaps, all_at, name_of, Names, Stands}
-use Rattle.rich_soundness_values.specs.Values.{HasType, HaveTypes, no_types, more_types, is_ref, is_ptr, is_cap, is_own}
+use Rattle.rich_soundness_values.specs.Values.{HasType, HaveTypes, more_types, is_ref, is_ptr, is_cap, is_own}
 use Rattle.rich_soundness_rows.specs.Laws.{RightRowsAreSafe}
 use Rattle.rich_soundness_rows.proofs.Moves.{ActsOn, moves, RowActs, safe}
 use Rattle.rich_soundness_rows.proofs.Closed.{named, names_at}
@@ -61,8 +60,8 @@ module _ (funcs : List LinkedFunc) (f : Frame) (hs : Heaps) (q : Point) (g : Sub
       let z = reference_to (subst (λ (x : Val). HasType hs x (Of k (pre.Ref p (named g n) (content h)))) r.2 t) refl in
       subst (λ (x : Val). ActsOn funcs f hs q g here c RefSplit (x ∷ vs) ls) (sym r.2)
       (moves _ None [] (Ptr r.0 ∷ Cap r.0 r.1 ∷ vs) ls e refl
-        (more_types (is_ptr Unr (ap (λ (y : ℕ). Of Unr (pre.Ptr y)) z.named)) (more_types (cap_typed r.0 r.1 p (named g n) (content h) z.privilege z.named (memory_named L (named g n) r.0 names z.named) z.stands) tv))
-        locals (λ r m. omega arith))
+      (more_types (is_ptr Unr (ap (λ (y : ℕ). Of Unr (pre.Ptr y)) z.named)) (more_types (cap_typed r.0 r.1 p (named g n) (content h) z.privilege z.named (memory_named L (named g n) r.0 names z.named) z.stands) tv))
+      locals (λ r m. omega arith))
 
   ref_join_go : (vs : List Val) (k j : Qual) (p : Priv) (n : ℕ) (h : Heap) (beneath : List Ty) → HaveTypes hs vs (all_at g (Of k (pre.Ptr n) ∷ Of j (pre.Cap p n h) ∷ beneath)) →
       row f q RefJoin ≡ Gives (Of Lin (pre.Ref p n h) ∷ beneath) None → ActsOn funcs f hs q g here c RefJoin vs ls
@@ -77,10 +76,10 @@ module _ (funcs : List LinkedFunc) (f : Frame) (hs : Heaps) (q : Point) (g : Sub
       let pointer = a.1 ∙ ap (λ (l : Location). Ptr l) same in
       subst (λ (x : Val). ActsOn funcs f hs q g here c RefJoin (x ∷ v ∷ vs) ls) (sym pointer)
       (subst (λ (x : Val). ActsOn funcs f hs q g here c RefJoin (Ptr r.0 ∷ x ∷ vs) ls) (sym r.2)
-        (moves _ None [] (Ref r.0 r.1 ∷ vs) ls e
-          (ap (λ (b : Bool). if b then leaves (Ref r.0 r.1 ∷ vs) (record here { operands = Ptr r.0 ∷ Cap r.0 r.1 ∷ vs; locals = ls }) c else NoStep) (same_self r.0))
-          (more_types (ref_typed r.0 r.1 p (named g n) (content h) z.privilege z.named z.stands) tv)
-          locals (λ r m. omega arith)))
+      (moves _ None [] (Ref r.0 r.1 ∷ vs) ls e
+      (ap (λ (b : Bool). if b then leaves (Ref r.0 r.1 ∷ vs) (record here { operands = Ptr r.0 ∷ Cap r.0 r.1 ∷ vs; locals = ls }) c else NoStep) (same_self r.0))
+      (more_types (ref_typed r.0 r.1 p (named g n) (content h) z.privilege z.named z.stands) tv)
+      locals (λ r m. omega arith)))
 
   cap_split_go : (vs : List Val) (k : Qual) (n : ℕ) (h : Heap) (beneath : List Ty) → HaveTypes hs vs (all_at g (Of k (pre.Cap Rw n h) ∷ beneath)) →
       row f q CapSplit ≡ Gives (Of Lin (pre.Own n) ∷ Of Lin (pre.Cap R n h) ∷ beneath) None → ActsOn funcs f hs q g here c CapSplit vs ls
@@ -91,8 +90,8 @@ module _ (funcs : List LinkedFunc) (f : Frame) (hs : Heaps) (q : Point) (g : Sub
       let writes = r.2 ∙ ap (λ (o : Priv). Cap r.0 o) z.privilege in
       subst (λ (x : Val). ActsOn funcs f hs q g here c CapSplit (x ∷ vs) ls) (sym writes)
       (moves _ None [] (Own r.0 ∷ Cap r.0 R ∷ vs) ls e refl
-        (more_types (is_own (ap (λ (y : ℕ). Of Lin (pre.Own y)) z.named) z.linear) (more_types (cap_typed r.0 R R (named g n) (content h) refl z.named z.linear z.stands) tv))
-        locals (λ k m. omega (arith, (divided k m r.0).1)))
+      (more_types (is_own (ap (λ (y : ℕ). Of Lin (pre.Own y)) z.named) z.linear) (more_types (cap_typed r.0 R R (named g n) (content h) refl z.named z.linear z.stands) tv))
+      locals (λ k m. omega (arith, (divided k m r.0).1)))
 
   cap_join_go : (vs : List Val) (k j : Qual) (n : ℕ) (h : Heap) (beneath : List Ty) → HaveTypes hs vs (all_at g (Of k (pre.Own n) ∷ Of j (pre.Cap R n h) ∷ beneath)) →
       row f q CapJoin ≡ Gives (Of Lin (pre.Cap Rw n h) ∷ beneath) None → ActsOn funcs f hs q g here c CapJoin vs ls
@@ -107,10 +106,10 @@ module _ (funcs : List LinkedFunc) (f : Frame) (hs : Heaps) (q : Point) (g : Sub
       let reads = r.2 ∙ ap (λ (o : Priv). Cap r.0 o) z.privilege in
       subst (λ (x : Val). ActsOn funcs f hs q g here c CapJoin (x ∷ v ∷ vs) ls) (sym owner)
       (subst (λ (x : Val). ActsOn funcs f hs q g here c CapJoin (Own r.0 ∷ x ∷ vs) ls) (sym reads)
-        (moves _ None [] (Cap r.0 Rw ∷ vs) ls e
-          (ap (λ (b : Bool). if b then leaves (Cap r.0 Rw ∷ vs) (record here { operands = Own r.0 ∷ Cap r.0 R ∷ vs; locals = ls }) c else NoStep) (same_self r.0))
-          (more_types (cap_typed r.0 Rw Rw (named g n) (content h) refl z.named z.linear z.stands) tv)
-          locals (λ k m. omega (arith, (divided k m r.0).1))))
+      (moves _ None [] (Cap r.0 Rw ∷ vs) ls e
+      (ap (λ (b : Bool). if b then leaves (Cap r.0 Rw ∷ vs) (record here { operands = Own r.0 ∷ Cap r.0 R ∷ vs; locals = ls }) c else NoStep) (same_self r.0))
+      (more_types (cap_typed r.0 Rw Rw (named g n) (content h) refl z.named z.linear z.stands) tv)
+      locals (λ k m. omega (arith, (divided k m r.0).1))))
 
 ref_split_acts : RowActs RefSplit
 ref_split_acts funcs f hs q g here c vs ls s =

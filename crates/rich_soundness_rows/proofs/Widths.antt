@@ -10,7 +10,7 @@ use Rattle.rich_types.specs.Instances.{Substitution}
 use Rattle.rich_rules.specs.Takers.{unr_i32, unr_i64}
 use Rattle.rich_reduction.specs.Configurations.{Val, Number}
 use Rattle.rich_soundness_values.specs.Heaps.{Heaps, at}
-use Rattle.rich_soundness_values.specs.Values.{HasType, HaveTypes, no_types, more_types, is_i32, is_i64}
+use Rattle.rich_soundness_values.specs.Values.{HasType, HaveTypes, more_types, is_i32, is_i64}
 use Rattle.rich_soundness_rows.proofs.Forms.{number_of, within_i32, within_i64}
 
 -- the type of numbers of a width
