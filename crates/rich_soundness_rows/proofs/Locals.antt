@@ -13,15 +13,9 @@ use Rattle.rich_rules.specs.Variables.{local_get_row, local_take_row, local_set_
 use Rattle.rich_rules.proofs.RowEquations.{row-LocalGet, row-LocalTake, row-LocalSet}
 use Rattle.rich_rules_inversions.specs.Cells.{Goes}
 use Rattle.rich_rules_inversions.proofs.Bodies.{rows}
-<<<<<<< HEAD
-use Rattle.rich_reduction.specs.Configurations.{Val, Empty, Here, Config, Event}
-use Rattle.rich_reduction.specs.Turns.{goes_on}
-use Rattle.machine_steps.specs.Steps.{with_found, with_one}
-=======
 use Rattle.rich_reduction.specs.Configurations.{Val, Empty}
 use Rattle.rich_reduction.specs.Turns.{goes_on}
 use Rattle.machine_steps.specs.Steps.{with_found}
->>>>>>> e7aeebac36fec96cd03ade0f5d34230408690361
 use Rattle.rich_reduction.specs.Plain.{put, put_local}
 use Rattle.rich_rights.specs.Rights.{Right, rights_to, count}
 use Rattle.rich_rights_laws.proofs.Sums.{values}
