@@ -1,1 +1,1 @@
-mod Heading
+pub mod Heading

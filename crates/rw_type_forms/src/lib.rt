@@ -5,6 +5,7 @@
 mod heads;
 mod types;
 
+pub use heads::only_index;
 pub use types::{
     read_function_type, read_heap, read_pretype, read_type, read_type_list, read_types,
 };

@@ -1,0 +1,2 @@
+pub mod SignatureFields
+mod IndexRows

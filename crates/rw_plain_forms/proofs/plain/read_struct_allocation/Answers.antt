@@ -1,0 +1,16 @@
+use Rattle.std.proofs.Common.{refl}
+use Rattle.std.specs.Prelude.{codes}
+use Rattle.rich_text.specs.Forms.{instruction_form}
+use Rattle.rw_parser.proofs.Composing.{first_fails, later_fails, one_gave, row_fails, row_gave}
+use Rattle.rw_parser.proofs.Firsts.{handed}
+use Rattle.rw_parser.specs.Reads.{behind_head}
+use Rattle.rw_plain_forms.proofs.plain.read_struct_allocation.Goals as goal
+
+pub returns-in_err-memory : goal.returns-in_err-memory
+returns-in_err-memory c = handed (behind_head instruction_form (codes "struct.malloc")) 1 _ _ c.from_residual.result _ c.from_residual.ensures.1 (row_fails refl (first_fails c.in_err-memory.ensures))
+
+pub returns-in_err-sizes : goal.returns-in_err-sizes
+returns-in_err-sizes c = handed (behind_head instruction_form (codes "struct.malloc")) 1 _ _ c.from_residual-in_err-sizes.result _ c.from_residual-in_err-sizes.ensures.1 (row_fails refl (later_fails c.in_ok-memory.ensures c.in_err-sizes.ensures))
+
+pub returns : goal.returns
+returns c = row_gave refl (one_gave c.in_ok-memory.ensures c.in_ok-sizes.ensures)
