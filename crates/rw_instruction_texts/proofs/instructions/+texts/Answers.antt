@@ -1,5 +1,5 @@
 -- A block is its signature, what stands in it, and a `)`.
-use Rattle.std.proofs.Common.{◌∙◌, ◌++◌, List, [], ◌∷◌, ap}
+use Rattle.std.proofs.Common.{◌∙◌, ◌++◌, List, ap}
 use Rattle.std.specs.Prelude.{codes, map}
 use Rattle.rw_types.specs.declared.instrs.Instr.{Instr}
 use Rattle.rich_writing.specs.Pieces.{in_parentheses, spaced}
