@@ -3,4 +3,4 @@
 
 mod laws;
 
-pub use laws::operands_exchanged;
+pub use laws::{operands_exchanged, worked_exchanges};
