@@ -42,7 +42,7 @@ link_of words r most j n bs low high head rest =
     let not_end : eqb a 0 ≡ false = ne_eqb a 0 (λ e. omega (arith, e)) in
     let low_one : a / 8 - 1 ≡ j = omega arith in
     let go : Bool → Bool → Bool → Bool → ℕ → ℕ → Option (List Block) =
-        λ e b1 b2 b3 k i. if e then Some [] else (if b1 && (b2 && b3) then option_map (λ bs. Headed i (r i) ∷ bs) (blocks_from most words r (r k)) else None) in
+    λ e b1 b2 b3 k i. if e then Some [] else (if b1 && (b2 && b3) then option_map (λ bs. Headed i (r i) ∷ bs) (blocks_from most words r (r k)) else None) in
     ap (λ e. go e (eqb (a % 8) 0) (nat_le 24 a) (nat_le a (8 * words - 8)) (a / 8) (a / 8 - 1)) not_end
     ∙ ap (λ b. go false b (nat_le 24 a) (nat_le a (8 * words - 8)) (a / 8) (a / 8 - 1)) (eq-eqb (a % 8) 0 whole)
     ∙ ap (λ b. go false true b (nat_le a (8 * words - 8)) (a / 8) (a / 8 - 1)) (le-leb 24 a low)
