@@ -1,5 +1,5 @@
 -- Which words blocks have, and what stays of lists of blocks where the words that their readers give stay.
-use Rattle.std.proofs.Common.{◌≡◌, ℕ, zero, suc, ◌+◌, ◌-◌, ◌*◌, ◌<◌, ◌≤◌, ◌≢◌, ◌⊎◌, inl, inr, ⊎_elim, List, [], ◌∷◌, ◌++◌, length, refl, sym, ap, ◌∙◌, subst, arith}
+use Rattle.std.proofs.Common.{◌≡◌, ℕ, suc, ◌+◌, ◌*◌, ◌<◌, ◌≤◌, ◌≢◌, ◌⊎◌, inl, inr, ⊎_elim, List, [], ◌∷◌, ◌++◌, sym, ap, ◌∙◌, subst, arith}
 use Rattle.heap_blocks.specs.Blocks.{Block, Headed, covers, covering, room_of, HavePayloads, HaveHeaders, AreChained}
 
 -- a list in reverse, before another
@@ -139,9 +139,9 @@ passed_linked (Headed j s ∷ ds) r r' p z most o a b =
     let q = b.2.0 in
     let eq : r' q ≡ r q = ⊎_elim (λ e. ap r' e ∙ a 1 p1 ∙ sym (ap r e)) (λ k. a' q k) (passed_place ds r q z.1 b.2.1.1) in
     (b.0, a j (λ e. omega (arith, e, b.0)) ∙ b.1, (q, (eq ∙ b.2.1.0, passed_kept ds r r' q z.1 (a 1 p1) a' b.2.1.1)))
-    where
-      apart2 : 1 ≡ p → covers p j s ≡ 1 → ⊥
-      apart2 e mine = let f : covers 1 j s ≡ covers p j s = ap (λ x. covers x j s) e in omega arith
+  where
+    apart2 : 1 ≡ p → covers p j s ≡ 1 → ⊥
+    apart2 e mine = let f : covers 1 j s ≡ covers p j s = ap (λ x. covers x j s) e in omega arith
 
 pub covers_less : (w j a s : ℕ) → a ≤ s → covers w j a ≤ covers w j s
 unfolding covers

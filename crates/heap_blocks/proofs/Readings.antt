@@ -1,9 +1,9 @@
 -- Tilings can be read, and readable lists are read.
-use Rattle.std.proofs.Common.{◌≡◌, ℕ, zero, suc, ◌+◌, ◌-◌, ◌*◌, ◌/◌, ◌%◌, ◌<◌, ◌≤◌, Bool, true, false, List, [], ◌∷◌, ◌++◌, length, Option, Some, None, refl, sym, ap, ◌∙◌, subst, arith}
+use Rattle.std.proofs.Common.{◌≡◌, ℕ, zero, suc, ◌-◌, ◌*◌, ◌/◌, ◌%◌, ◌≤◌, Bool, true, false, List, [], ◌∷◌, ◌++◌, Option, Some, None, refl, ap, ◌∙◌, arith}
 use Rattle.std.specs.Prelude.{◌&&◌, nat_le, eqb, option_map, if◌then◌else◌}
 use Rattle.std.proofs.lemmas.Bool.{le-leb, eq-eqb, ne_eqb}
-use Rattle.heap_blocks.specs.Blocks.{Block, Headed, covers, covering, room_of, HavePayloads, AreChained, IsReadable, IsTiled, IsFresh, is_tiled_word, first_blocks}
-use Rattle.heap_blocks.specs.FreeLists.{is_link, block_at, blocks_from, most_blocks, free_list}
+use Rattle.heap_blocks.specs.Blocks.{Block, Headed, covering, room_of, HavePayloads, AreChained, IsReadable, IsTiled, is_tiled_word}
+use Rattle.heap_blocks.specs.FreeLists.{blocks_from, most_blocks}
 use Rattle.heap_blocks.specs.Laws.{ReadableIsRead, TiledIsReadable, FreshIsTiled}
 use Rattle.heap_blocks.proofs.Lists.{covers_in, covers_left, covers_right, covering_append, payloads_both, headers_both, chain_headers}
 
@@ -42,7 +42,7 @@ link_of words r most j n bs low high head rest =
     let not_end : eqb a 0 ≡ false = ne_eqb a 0 (λ e. omega (arith, e)) in
     let low_one : a / 8 - 1 ≡ j = omega arith in
     let go : Bool → Bool → Bool → Bool → ℕ → ℕ → Option (List Block) =
-        λ e b1 b2 b3 k i. if e then Some [] else (if b1 && (b2 && b3) then option_map (λ bs. Headed i (r i) ∷ bs) (blocks_from most words r (r k)) else None) in
+    λ e b1 b2 b3 k i. if e then Some [] else (if b1 && (b2 && b3) then option_map (λ bs. Headed i (r i) ∷ bs) (blocks_from most words r (r k)) else None) in
     ap (λ e. go e (eqb (a % 8) 0) (nat_le 24 a) (nat_le a (8 * words - 8)) (a / 8) (a / 8 - 1)) not_end
     ∙ ap (λ b. go false b (nat_le 24 a) (nat_le a (8 * words - 8)) (a / 8) (a / 8 - 1)) (eq-eqb (a % 8) 0 whole)
     ∙ ap (λ b. go false true b (nat_le a (8 * words - 8)) (a / 8) (a / 8 - 1)) (le-leb 24 a low)

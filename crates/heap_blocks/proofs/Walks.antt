@@ -1,9 +1,9 @@
 -- A walk by headers comes to the end of the linear part.
 use Rattle.std.proofs.Common.{◌≡◌, ℕ, zero, suc, ◌+◌, ◌-◌, ◌<◌, ◌≤◌, ◌⊎◌, inl, inr, ⊎_elim, List, [], ◌∷◌, ◌++◌, refl, sym, ap, ◌∙◌, subst, arith}
 use Rattle.std.proofs.lemmas.Bool.{cases_lt}
-use Rattle.heap_blocks.specs.Blocks.{Block, Headed, covers, covering, HavePayloads, HaveHeaders, is_tiled_word, IsReadable, header_walk}
+use Rattle.heap_blocks.specs.Blocks.{Block, Headed, covers, covering, HaveHeaders, header_walk}
 use Rattle.heap_blocks.specs.Laws.{HeadersLead}
-use Rattle.heap_blocks.proofs.Lists.{covers_in, covers_most, covers_left, covers_right, covering_append, headers_back, payloads_back}
+use Rattle.heap_blocks.proofs.Lists.{covers_in, covers_most, covers_left, covers_right, covering_append, headers_back}
 
 -- no block lies on both sides of p
 abbrev Border : ℕ → List Block → Type 0
@@ -59,21 +59,21 @@ module _ (words : ℕ) (r : ℕ → ℕ) (w3 : 3 ≤ words) (bs : List Block) (h
   from zero p far lo hi b = (0, omega arith)
   from (suc d) p far lo hi b = ⊎_elim
       (λ (lt : p < words).
-          let f = find p bs (omega (arith, cover p, covers_in p 2 (words - 3) lo (omega arith))) in
-          let b' = subst (Border p) f.is b in
-          let l = covers_left p f.j f.s f.hits in
-          let h = covers_right p f.j f.s f.hits in
-          let e : f.j ≡ p = ⊎_elim (λ (x : f.j + f.s < p). absurd (omega arith)) (λ (x : p ≤ f.j). omega arith) (border_mid p f.j f.s f.pre f.post b') in
-          let c : (i : ℕ) → covering i bs ≡ covering i f.pre + (covers i f.j f.s + covering i f.post) = λ i. ap (covering i) f.is ∙ covering_append i f.pre (Headed f.j f.s ∷ f.post) in
-          let none : (i : ℕ) → i ≤ p + f.s → p ≤ i → covering i f.pre + covering i f.post ≤ 0 = λ i x y. omega (arith, c i, cover i, covers_most i 2 (words - 3), covers_in i f.j f.s (omega (arith, e)) (omega (arith, e))) in
-          let rp : r p ≡ f.s = ap r (sym e) ∙ (headers_back r f.pre (Headed f.j f.s ∷ f.post) (subst (HaveHeaders r) f.is heads)).0 in
-          let top = covers_in (f.j + f.s) f.j f.s (omega arith) (omega arith) in
-          let end = covers_right (f.j + f.s) 2 (words - 3) (omega (arith, top, c (f.j + f.s), cover (f.j + f.s))) in
-          let b1 = border_front p f.pre (Headed f.j f.s ∷ f.post) b' in
-          let b2 = (border_back p f.pre (Headed f.j f.s ∷ f.post) b').1 in
-          let next : Border (suc (p + f.s)) bs = subst (Border (suc (p + f.s))) (sym f.is) (border_both (suc (p + f.s)) f.pre (Headed f.j f.s ∷ f.post) (border_next p f.s f.pre (λ i x y. omega (arith, none i x y)) b1) (inl (omega (arith, e)), border_next p f.s f.post (λ i x y. omega (arith, none i x y)) b2)) in
-          let g = from d (suc (p + f.s)) (omega arith) (omega arith) (omega (arith, e, end, w3)) next in
-          (suc g.0, ap (λ x. header_walk r g.0 (suc (p + x))) rp ∙ g.1))
+      let f = find p bs (omega (arith, cover p, covers_in p 2 (words - 3) lo (omega arith))) in
+      let b' = subst (Border p) f.is b in
+      let l = covers_left p f.j f.s f.hits in
+      let h = covers_right p f.j f.s f.hits in
+      let e : f.j ≡ p = ⊎_elim (λ (x : f.j + f.s < p). absurd (omega arith)) (λ (x : p ≤ f.j). omega arith) (border_mid p f.j f.s f.pre f.post b') in
+      let c : (i : ℕ) → covering i bs ≡ covering i f.pre + (covers i f.j f.s + covering i f.post) = λ i. ap (covering i) f.is ∙ covering_append i f.pre (Headed f.j f.s ∷ f.post) in
+      let none : (i : ℕ) → i ≤ p + f.s → p ≤ i → covering i f.pre + covering i f.post ≤ 0 = λ i x y. omega (arith, c i, cover i, covers_most i 2 (words - 3), covers_in i f.j f.s (omega (arith, e)) (omega (arith, e))) in
+      let rp : r p ≡ f.s = ap r (sym e) ∙ (headers_back r f.pre (Headed f.j f.s ∷ f.post) (subst (HaveHeaders r) f.is heads)).0 in
+      let top = covers_in (f.j + f.s) f.j f.s (omega arith) (omega arith) in
+      let end = covers_right (f.j + f.s) 2 (words - 3) (omega (arith, top, c (f.j + f.s), cover (f.j + f.s))) in
+      let b1 = border_front p f.pre (Headed f.j f.s ∷ f.post) b' in
+      let b2 = (border_back p f.pre (Headed f.j f.s ∷ f.post) b').1 in
+      let next : Border (suc (p + f.s)) bs = subst (Border (suc (p + f.s))) (sym f.is) (border_both (suc (p + f.s)) f.pre (Headed f.j f.s ∷ f.post) (border_next p f.s f.pre (λ i x y. omega (arith, none i x y)) b1) (inl (omega (arith, e)), border_next p f.s f.post (λ i x y. omega (arith, none i x y)) b2)) in
+      let g = from d (suc (p + f.s)) (omega arith) (omega arith) (omega (arith, e, end, w3)) next in
+      (suc g.0, ap (λ x. header_walk r g.0 (suc (p + x))) rp ∙ g.1))
       (λ ge. (0, omega arith))
       (cases_lt p words)
 
