@@ -1,19 +1,17 @@
 -- What each instruction of the codes is typed as, before the rest of its list.
-use Rattle.std.proofs.Common.{◌≡◌, ℕ, ◌<◌, ◌≤◌, Bool, true, false, List, [], ◌∷◌, ◌++◌, refl, sym, ap, ◌∙◌}
-use Rattle.std.specs.Prelude.{Option, Some, None, Result, Ok, Err, slice_get, nat_lt, nat_le, option_map, if◌then◌else◌}
+use Rattle.std.proofs.Common.{◌≡◌, ℕ, ◌<◌, Bool, true, List, [], ◌∷◌, refl, sym, ap, ◌∙◌}
+use Rattle.std.specs.Prelude.{Option, Some, None, Ok, Err, slice_get, nat_le, if◌then◌else◌}
 use Rattle.std.proofs.lemmas.Bool.{lt-ltb}
-use Rattle.wasm_operators.specs.declared.BinOp.{BinOp}
 use Rattle.wasm_ast.specs.declared.types.ValTy.{ValTy}
 use Rattle.wasm_ast.specs.declared.types.ValTy.TheVariants.{I32, I64}
 use Rattle.wasm_ast.specs.declared.instructions.WInstr as w
 use Rattle.wasm_ast.specs.declared.instructions.WInstr.{WInstr, out-WInstr, roll-WInstr, out-roll-WInstr}
 use Rattle.wasm_ast.specs.declared.instructions.WInstr.TheOpen.{WInstr-F}
 use Rattle.wasm_ast.specs.declared.instructions.WInstr.TheVariants as v
-use Rattle.wasm_typing.specs.declared.rule.WRule.{WRule}
 use Rattle.wasm_typing.specs.declared.rule.WRule.TheVariants.{MemoryIndex, GlobalIndex, LocalIndex, LabelIndex, ConstGlobal, Alignment}
 use Rattle.wasm_typing.specs.declared.context.Context.{Context}
 use Rattle.wasm_typing.specs.declared.context.GlobalType.{GlobalType}
-use Rattle.wasm_typing.specs.Signatures.{Slot, The, Signature, ◌⇒◌, leaves, operands_of, found, needs, signature_in}
+use Rattle.wasm_typing.specs.Signatures.{The, Signature, ◌⇒◌, leaves, operands_of, found, needs, signature_in}
 use Rattle.wasm_typing.specs.Typing.{Applies, Labels, AreTyped, plain, loop, one_arm, two_arms, more}
 
 module _ (C : Context) where

@@ -1,11 +1,11 @@
 -- The codes are typed, instruction by instruction.
-use Rattle.std.proofs.Common.{◌≡◌, ◌<◌, [], ◌∷◌, true, refl}
-use Rattle.std.specs.Prelude.{Some, None, slice_get}
+use Rattle.std.proofs.Common.{[], ◌∷◌, true, refl}
+use Rattle.std.specs.Prelude.{Some, None}
 use Rattle.wasm_ast.specs.declared.types.ValTy.TheVariants.{I32, I64}
 use Rattle.wasm_typing.specs.declared.context.Context.{Context}
 use Rattle.wasm_typing.specs.Contexts.{body_context}
 use Rattle.wasm_typing.specs.Typing.{Labels, AreTyped, none}
-use Rattle.allocator_codes.specs.Codes.{free_lin_code, one_at_least, spent, to_next, take_whole, take_front, search, alloc_lin_code, alloc_unr_code}
+use Rattle.allocator_codes.specs.Codes.{free_lin_code, spent, to_next, take_whole, take_front, search, alloc_lin_code, alloc_unr_code}
 use Rattle.allocator_codes.specs.Laws.{alloc_type, free_type, HasHeap, IsTypedCode, CodesAreTyped}
 use Rattle.allocator_codes.proofs.Instructions.{get, set, global_get, global_set, const64, const32, wrap, extend, size, load, store, add, sub, mul, shift, less, eqz, unreachable, branch, if_one, if_two, loop_none}
 

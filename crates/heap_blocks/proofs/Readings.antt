@@ -1,9 +1,9 @@
 -- Tilings can be read, and readable lists are read.
-use Rattle.std.proofs.Common.{◌≡◌, ℕ, zero, suc, ◌+◌, ◌-◌, ◌*◌, ◌/◌, ◌%◌, ◌<◌, ◌≤◌, Bool, true, false, List, [], ◌∷◌, ◌++◌, length, Option, Some, None, refl, sym, ap, ◌∙◌, subst, arith}
+use Rattle.std.proofs.Common.{◌≡◌, ℕ, zero, suc, ◌-◌, ◌*◌, ◌/◌, ◌%◌, ◌≤◌, Bool, true, false, List, [], ◌∷◌, ◌++◌, Option, Some, None, refl, ap, ◌∙◌, arith}
 use Rattle.std.specs.Prelude.{◌&&◌, nat_le, eqb, option_map, if◌then◌else◌}
 use Rattle.std.proofs.lemmas.Bool.{le-leb, eq-eqb, ne_eqb}
-use Rattle.heap_blocks.specs.Blocks.{Block, Headed, covers, covering, room_of, HavePayloads, AreChained, IsReadable, IsTiled, IsFresh, is_tiled_word, first_blocks}
-use Rattle.heap_blocks.specs.FreeLists.{is_link, block_at, blocks_from, most_blocks, free_list}
+use Rattle.heap_blocks.specs.Blocks.{Block, Headed, covering, room_of, HavePayloads, AreChained, IsReadable, IsTiled, is_tiled_word}
+use Rattle.heap_blocks.specs.FreeLists.{blocks_from, most_blocks}
 use Rattle.heap_blocks.specs.Laws.{ReadableIsRead, TiledIsReadable, FreshIsTiled}
 use Rattle.heap_blocks.proofs.Lists.{covers_in, covers_left, covers_right, covering_append, payloads_both, headers_both, chain_headers}
 

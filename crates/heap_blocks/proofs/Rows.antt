@@ -1,5 +1,5 @@
 -- The rows, computed.
-use Rattle.std.proofs.Common.{ℕ, List, refl}
+use Rattle.std.proofs.Common.{refl}
 use Rattle.heap_blocks.specs.Rows.{TwoInTurn, LastInFirstOut, Splits, Broken}
 
 pub two_in_turn : TwoInTurn

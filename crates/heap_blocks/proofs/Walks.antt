@@ -1,9 +1,9 @@
 -- A walk by headers comes to the end of the linear part.
 use Rattle.std.proofs.Common.{◌≡◌, ℕ, zero, suc, ◌+◌, ◌-◌, ◌<◌, ◌≤◌, ◌⊎◌, inl, inr, ⊎_elim, List, [], ◌∷◌, ◌++◌, refl, sym, ap, ◌∙◌, subst, arith}
 use Rattle.std.proofs.lemmas.Bool.{cases_lt}
-use Rattle.heap_blocks.specs.Blocks.{Block, Headed, covers, covering, HavePayloads, HaveHeaders, is_tiled_word, IsReadable, header_walk}
+use Rattle.heap_blocks.specs.Blocks.{Block, Headed, covers, covering, HaveHeaders, header_walk}
 use Rattle.heap_blocks.specs.Laws.{HeadersLead}
-use Rattle.heap_blocks.proofs.Lists.{covers_in, covers_most, covers_left, covers_right, covering_append, headers_back, payloads_back}
+use Rattle.heap_blocks.proofs.Lists.{covers_in, covers_most, covers_left, covers_right, covering_append, headers_back}
 
 -- no block lies on both sides of p
 abbrev Border : ℕ → List Block → Type 0

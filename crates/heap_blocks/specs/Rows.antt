@@ -3,7 +3,7 @@
 use Rattle.std.specs.Prelude.{◌≡◌, ℕ, zero, suc, List, [], ◌∷◌, Some, None}
 use Rattle.heap_blocks.specs.Blocks.{Block, Headed, address_of, words_of, first_blocks, header_walk}
 use Rattle.heap_blocks.specs.FreeLists.{free_list}
-use Rattle.heap_blocks.specs.Allocation.{Taken, first_fit}
+use Rattle.heap_blocks.specs.Allocation.{first_fit}
 
 -- a reader of these words, from word 1 on, and of zeros
 abbrev pub reader : List ℕ → ℕ → ℕ

@@ -1,0 +1,5 @@
+pub mod Reaching
+pub mod Instructions
+pub mod Returning
+pub mod Sizes
+pub mod Starting

@@ -1,0 +1,4 @@
+pub mod Heaps
+pub mod Walks
+pub mod Contract
+pub mod Laws
