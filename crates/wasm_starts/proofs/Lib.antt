@@ -1,0 +1,6 @@
+pub mod Failing
+pub mod Putting
+pub mod Hosts
+pub mod Begins
+pub mod Outs
+pub mod Whole
