@@ -1,18 +1,15 @@
 -- A program begins in a good configuration.
-use Rattle.std.proofs.Common.{◌≡◌, ℕ, zero, suc, List, [], ◌∷◌, ◌⊎◌, inl, inr, length, map, Option, Some, None, refl, ap, arith}
+use Rattle.std.proofs.Common.{◌≡◌, ℕ, zero, suc, List, [], ◌∷◌, inr, map, Some, refl, arith}
 use Rattle.std.specs.Prelude.{slice_get}
 use Rattle.std.proofs.lemmas.List.{length-map}
 use Rattle.rw_program.specs.declared.linked.LinkedGlobal.{LinkedGlobal}
-use Rattle.rw_types.specs.declared.types.Heap.{Heap}
 use Rattle.rw_types.specs.declared.types.Heap.TheVariants.{Struct}
 use Rattle.rw_program.specs.Programs.{Program}
 use Rattle.rich_linking.specs.TypedPrograms.{types_of_functions}
 use Rattle.rich_reduction.specs.Configurations.{Val, Empty}
 use Rattle.rich_soundness_values.specs.Heaps.{Heaps}
-use Rattle.rich_soundness_values.specs.Cells.{Stored}
 use Rattle.rich_rights.proofs.Kept.{starts}
-use Rattle.rich_soundness_points.specs.Points.{own_call}
-use Rattle.rich_soundness_points.specs.Good.{Runs, in_own_list, AreGlobals, Good, StartsGood}
+use Rattle.rich_soundness_points.specs.Good.{in_own_list, StartsGood}
 
 -- nothing stands in the stores yet
 abbrev nothing_stands : Program → Heaps

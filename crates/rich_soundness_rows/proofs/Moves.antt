@@ -56,11 +56,11 @@ is_own (GlobalSet n) = true
 is_own (Call n args) = true
 is_own i = false
 
-own : (n : ℕ) (gs : List LinkedGlobal) (main : ℕ) (i : Instr) (rest : List Instr) → own_list n gs main ≡ i ∷ rest → is_own i ≡ true
+pub own : (n : ℕ) (gs : List LinkedGlobal) (main : ℕ) (i : Instr) (rest : List Instr) → own_list n gs main ≡ i ∷ rest → is_own i ≡ true
 own n [] main i rest e = cc
 own n (g ∷ gs) main i rest e = cc
 
-goes_on : {f : Frame} {d : Demand} {q : Point} {i : Instr} {is : List Instr} {o : Outcome} {notes : List Note} → Follows f d q i is o notes → Goes o
+pub goes_on : {f : Frame} {d : Demand} {q : Point} {i : Instr} {is : List Instr} {o : Outcome} {notes : List Note} → Follows f d q i is o notes → Goes o
 goes_on (derive.ends e n) = tt
 goes_on (derive.goes_on d) = tt
 goes_on (derive.enters inner later e arms d) = tt

@@ -1,0 +1,4 @@
+pub mod Splits
+pub mod Bodies
+pub mod Entered
+pub mod Lists
