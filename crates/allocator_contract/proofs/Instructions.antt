@@ -13,7 +13,7 @@ use Rattle.wasm_ast.specs.Operations.{operation_in}
 use Rattle.machine_steps.specs.Steps.{Turn, Went}
 use Rattle.wasm_execution.specs.Configurations.{Aim, Past, Back, Level, Here, Bottom, Config, Event, Touch}
 use Rattle.wasm_execution.specs.Environments.{Environment, is_allocator}
-use Rattle.wasm_execution.specs.Turns.{with_found}
+use Rattle.machine_steps.specs.Steps.{with_found}
 use Rattle.wasm_execution.specs.Memories.{access_at}
 use Rattle.wasm_execution.specs.Steps.{act, step, step_at}
 use Rattle.wasm_execution.proofs.Memories.{accesses}

@@ -11,7 +11,7 @@ use Rattle.machine_steps.specs.declared.Trap as machine
 use Rattle.machine_steps.specs.declared.Trap.TheVariants.{Exhausted, Unreachable}
 use Rattle.machine_steps.specs.Steps.{Went, Ended}
 use Rattle.wasm_execution.specs.Types.{results_of}
-use Rattle.wasm_execution.specs.Turns.{with_found, with_all}
+use Rattle.machine_steps.specs.Steps.{with_found, with_all}
 use Rattle.wasm_execution.specs.Configurations.{Level, Store, Config, Returned, Stopped}
 use Rattle.wasm_execution.specs.Environments.{Environment, Function, function_at, is_allocator}
 use Rattle.wasm_execution.specs.Control.{told_reason}
