@@ -2,6 +2,8 @@
 use Rattle.std.proofs.Common.{◌≡◌, ℕ, ◌+◌, List, [], ◌∷◌, ◌++◌, length, reverse, refl, sym, ap, ◌∙◌, subst, arith}
 use Rattle.std.proofs.lemmas.List.{length-reverse}
 use Rattle.rw_types.specs.declared.instrs.BlockSig.{BlockSig}
+use Rattle.std.specs.Prelude.{slice_set}
+use Rattle.rw_types.specs.declared.instrs.LocalTy.{LocalTy}
 use Rattle.rw_types.specs.declared.instrs.Instr.{Instr}
 use Rattle.rw_types.specs.declared.types.Ty.{Ty}
 use Rattle.rw_program.specs.Programs.{Program}
@@ -18,7 +20,13 @@ use Rattle.rich_soundness_points.specs.Programs.{AllFit}
 use Rattle.rich_soundness_points.specs.Points as points
 use Rattle.rich_soundness_points.specs.Points.{label_at, labels_at, demand_at, point_at, closed, GoesOn, InBody, Callers}
 use Rattle.rich_soundness_points.specs.Good.{AreSet, in_body, Good}
-use Rattle.rich_soundness_tuples.proofs.Lists.{at_append, at_length}
+use Rattle.rich_soundness_tuples.proofs.Lists.{at_append}
+use Rattle.rich_soundness_rows.proofs.Closed.{at_length, set_length}
+
+-- as many locals after a block
+changed_length : (ls : List LocalTy) (ts : List Ty) → length (changed_by ls ts) ≡ length ts
+changed_length [] ts = refl
+changed_length (l ∷ ls) ts = changed_length ls (slice_set ts l.index l.ty) ∙ set_length ts l.index l.ty
 
 module _ (p : Program) (c : Config) (rest : List Instr) (good : Good p c) {owner : Owner} {results operands : List Ty} (set : AreSet p good.set owner) (b : InBody p good.heaps owner results operands c.here) (callers : Callers p good.heaps owner results c.callers)
     (sig : BlockSig) (body : List Instr) (beneath : List Ty) (front back : List Val) where
@@ -73,6 +81,12 @@ module _ (p : Program) (c : Config) (rest : List Instr) (good : Good p c) {owner
   locals_stay : HaveTypes good.heaps c.here.locals (all_at b.goes_on.answers b.goes_on.point.locals)
   locals_stay = subst (λ (ts : List Ty). HaveTypes good.heaps c.here.locals ts) (ap (λ (y : Point). y.locals) b.goes_on.seen) b.locals_typed
 
+  so_many : length (all_at b.goes_on.answers (changed_by sig.locals b.goes_on.point.locals)) ≡ length (all_at b.goes_on.answers b.goes_on.point.locals)
+  so_many = at_length b.goes_on.answers (changed_by sig.locals b.goes_on.point.locals) ∙ changed_length sig.locals b.goes_on.point.locals ∙ sym (at_length b.goes_on.answers b.goes_on.point.locals)
+
+  outside : points.Levels p good.heaps owner results (length (all_at b.goes_on.answers b.goes_on.point.locals)) b.labels b.demand c.here.levels
+  outside = subst (λ (n : ℕ). points.Levels p good.heaps owner results n b.labels b.demand c.here.levels) (ap (λ (y : Point). length y.locals) b.goes_on.seen) b.levels
+
   module _ (front_typed : HaveTypes good.heaps front (all_at b.goes_on.answers (reverse sig.params))) (back_typed : HaveTypes good.heaps back (all_at b.goes_on.answers beneath))
       (rights : (r : Right) (n : ℕ) → count_all (rights_to r n) front + count_all (rights_to r n) back ≡ count_all (rights_to r n) c.here.operands) where
     pub past_good : {inner later : List Note} → Derives b.goes_on.frame (entered (end_label b.goes_on.point sig beneath)).demand (start (entered (end_label b.goes_on.point sig beneath)) 0) body inner → AllFit body →
@@ -87,8 +101,8 @@ module _ (p : Program) (c : Config) (rest : List Instr) (good : Good p c) {owner
         demand = demand_at b.goes_on.answers (entered (end_label b.goes_on.point sig beneath)).demand;
         locals = all_at b.goes_on.answers b.goes_on.point.locals;
         goes_on = within (end_label b.goes_on.point sig beneath) d fit;
-        levels = points.past (all_at b.goes_on.answers (reverse sig.results)) (all_at b.goes_on.answers (changed_by sig.locals b.goes_on.point.locals)) (all_at b.goes_on.answers beneath) b.demand refl (many sig.results) (many sig.results) back_typed
-            (around (end_label b.goes_on.point sig beneath) d' fit') b.levels;
+        levels = points.past (all_at b.goes_on.answers (reverse sig.results)) (all_at b.goes_on.answers (changed_by sig.locals b.goes_on.point.locals)) (all_at b.goes_on.answers beneath) b.demand so_many refl (many sig.results) (many sig.results) back_typed
+            (around (end_label b.goes_on.point sig beneath) d' fit') outside;
         locals_typed = locals_stay;
         gives = b.gives;
       }) front_typed callers;
@@ -110,7 +124,7 @@ module _ (p : Program) (c : Config) (rest : List Instr) (good : Good p c) {owner
         locals = all_at b.goes_on.answers b.goes_on.point.locals;
         goes_on = within (start_label b.goes_on.point sig beneath) d fit;
         levels = points.back (all_at b.goes_on.answers (reverse sig.results)) (all_at b.goes_on.answers (changed_by sig.locals b.goes_on.point.locals)) (all_at b.goes_on.answers (reverse sig.params)) (all_at b.goes_on.answers b.goes_on.point.locals)
-            (all_at b.goes_on.answers beneath) b.demand body refl (many sig.params) (many sig.results) back_typed (within (start_label b.goes_on.point sig beneath) d fit) (around (start_label b.goes_on.point sig beneath) d' fit') b.levels;
+            (all_at b.goes_on.answers beneath) b.demand body so_many refl refl (many sig.params) (many sig.results) back_typed (within (start_label b.goes_on.point sig beneath) d fit) (around (start_label b.goes_on.point sig beneath) d' fit') outside;
         locals_typed = locals_stay;
         gives = b.gives;
       }) front_typed callers;

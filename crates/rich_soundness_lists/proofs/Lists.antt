@@ -22,7 +22,8 @@ use Rattle.rich_soundness_values.specs.Values.{HaveTypes}
 use Rattle.rich_soundness_points.specs.Good.{Good, Fine}
 use Rattle.rich_soundness_lists.proofs.Bodies.{BodySafe, in_bodies}
 use Rattle.rich_soundness_rows.proofs.Widths.{number_taken}
-use Rattle.rich_soundness_tuples.proofs.Lists.{have_length, at_append, at_length}
+use Rattle.rich_soundness_tuples.proofs.Lists.{have_length, at_append}
+use Rattle.rich_soundness_rows.proofs.Closed.{at_length}
 use Rattle.rich_soundness_lists.specs.Laws.{ListRowsAreSafe}
 use Rattle.rich_soundness_lists.proofs.Splits.{split, top_is, row_all, entering, first_arm, second_arm}
 use Rattle.rich_soundness_lists.proofs.Entered.{past_good, back_good}

@@ -67,20 +67,20 @@ own_rest p n = GlobalSet n ∷ own_list (suc n) (drop (suc n) p.globals) p.main
 abbrev pub own_level : Program → ℕ → Level
 own_level p n = record { aim = Past; takes = 1; gives = 1; sizes = []; beneath = []; rest = own_rest p n }
 
--- the open lists of a call, the innermost first, with the labels and the demand that the list within sees: at the bottom a
--- function's body, or an initialiser in its block; a list that a branch leads past; or a loop
-pub data Levels (p : Program) (hs : Heaps) (owner : Owner) (results : List Ty) : List Label → Demand → List Level → Type 0 where
-  of_function : {d : Demand} → owner ≡ OfFunction → d ≡ record { types = results; locals = AllUnr } → Levels p hs owner results [] d []
+-- the open lists of a call with so many locals, the innermost first, with the labels and the demand that the list within sees: at
+-- the bottom a function's body, or an initialiser in its block; a list that a branch leads past; or a loop
+pub data Levels (p : Program) (hs : Heaps) (owner : Owner) (results : List Ty) (count : ℕ) : List Label → Demand → List Level → Type 0 where
+  of_function : {d : Demand} → owner ≡ OfFunction → d ≡ record { types = results; locals = AllUnr } → Levels p hs owner results count [] d []
   of_initialiser : {d : Demand} {l : Level} (n : ℕ) (g : LinkedGlobal) → owner ≡ OfGlobal n → slice_get p.globals n ≡ Some g → d ≡ record { types = g.ty ∷ []; locals = AllUnr } → l ≡ own_level p n →
-      Levels p hs owner results [] d (l ∷ [])
-  past : {labels : List Label} {l : Level} {levels : List Level} (types locals rest : List Ty) (outer : Demand) → l.aim ≡ Past → l.takes ≡ length types → l.gives ≡ length types →
-      HaveTypes hs l.beneath rest → GoesOn p owner outer (closed locals labels results (types ++ rest)) l.sizes l.rest → Levels p hs owner results labels outer levels →
-      Levels p hs owner results (record { types = types; locals = locals; rest = rest } ∷ labels) (record { types = types; locals = Exactly locals }) (l ∷ levels)
-  back : {labels : List Label} {l : Level} {levels : List Level} (types locals carried starting rest : List Ty) (outer : Demand) (body : List Instr) → l.aim ≡ Back body → l.takes ≡ length carried → l.gives ≡ length types →
+      Levels p hs owner results count [] d (l ∷ [])
+  past : {labels : List Label} {l : Level} {levels : List Level} (types locals rest : List Ty) (outer : Demand) → length locals ≡ count → l.aim ≡ Past → l.takes ≡ length types → l.gives ≡ length types →
+      HaveTypes hs l.beneath rest → GoesOn p owner outer (closed locals labels results (types ++ rest)) l.sizes l.rest → Levels p hs owner results count labels outer levels →
+      Levels p hs owner results count (record { types = types; locals = locals; rest = rest } ∷ labels) (record { types = types; locals = Exactly locals }) (l ∷ levels)
+  back : {labels : List Label} {l : Level} {levels : List Level} (types locals carried starting rest : List Ty) (outer : Demand) (body : List Instr) → length locals ≡ count → length starting ≡ count → l.aim ≡ Back body → l.takes ≡ length carried → l.gives ≡ length types →
       HaveTypes hs l.beneath rest →
       GoesOn p owner (record { types = types; locals = Exactly locals }) (closed starting (record { types = carried; locals = starting; rest = rest } ∷ labels) results carried) l.sizes body →
-      GoesOn p owner outer (closed locals labels results (types ++ rest)) l.sizes l.rest → Levels p hs owner results labels outer levels →
-      Levels p hs owner results (record { types = carried; locals = starting; rest = rest } ∷ labels) (record { types = types; locals = Exactly locals }) (l ∷ levels)
+      GoesOn p owner outer (closed locals labels results (types ++ rest)) l.sizes l.rest → Levels p hs owner results count labels outer levels →
+      Levels p hs owner results count (record { types = carried; locals = starting; rest = rest } ∷ labels) (record { types = types; locals = Exactly locals }) (l ∷ levels)
 
 -- a call of a body that goes on from these operands to these results, in closed types
 pub record InBody (p : Program) (hs : Heaps) (owner : Owner) (results operands : List Ty) (here : Here) : Type 0 where
@@ -88,7 +88,7 @@ pub record InBody (p : Program) (hs : Heaps) (owner : Owner) (results operands :
   pub demand : Demand
   pub locals : List Ty
   pub goes_on : GoesOn p owner demand (closed locals labels results operands) here.sizes here.rest
-  pub levels : Levels p hs owner results labels demand here.levels
+  pub levels : Levels p hs owner results (length locals) labels demand here.levels
   pub locals_typed : HaveTypes hs here.locals locals
   pub gives : owner ≡ OfFunction → here.results ≡ length results
 

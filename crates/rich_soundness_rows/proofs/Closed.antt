@@ -1,6 +1,6 @@
 -- What stands under binders, where names and closed types answer them.
 use Rattle.std.proofs.Common.{◌≡◌, ℕ, zero, suc, ◌+◌, List, [], ◌∷◌, Option, Some, None, length, ◌-◌, refl, sym, ap, ◌∙◌, subst, arith}
-use Rattle.std.specs.Prelude.{IsTrue, slice_get}
+use Rattle.std.specs.Prelude.{IsTrue, slice_get, slice_set}
 use Rattle.rw_types.specs.declared.types.Mem.{Mem}
 use Rattle.rw_types.specs.declared.types.Qual.{Qual}
 use Rattle.rw_types.specs.declared.types.Qual.TheVariants.{Unr, Lin}
@@ -13,7 +13,7 @@ use Rattle.rich_types.specs.Instances.{Substitution, substituting, raise, found_
 use Rattle.rich_types_laws.proofs.Composed.{look_out}
 use Rattle.rich_types_laws.proofs.Unchanged.{raised_by_nothing}
 use Rattle.rich_rules.specs.Forms.{is_unr, is_unr_type}
-use Rattle.rich_soundness_values.specs.Heaps.{IsUnr, Names, NamesAnswer, TypeAnswers, TypesAnswer, Answer, at}
+use Rattle.rich_soundness_values.specs.Heaps.{IsUnr, Names, NamesAnswer, TypeAnswers, TypesAnswer, Answer, at, all_at}
 
 pub unr_is : (q : Qual) → IsTrue (is_unr q) → q ≡ Unr
 unr_is Unr e = refl
@@ -54,3 +54,13 @@ unr_at g c (Var n) a u = go (slice_get c.variables n) refl u
     go (Some k) e f = let r = type_at g.variables c.variables n k a.variables e in
         let s : at g (Var n) ≡ raise outside r.0 = look_out g.variables (λ t. raise outside t) (λ m. Var m) 0 n n (omega arith) ∙ ap (λ (o : Option Ty). found_or o (λ t. raise outside t) (Var (n - length g.variables))) r.1 in
         subst IsUnr (sym (s ∙ raised_by_nothing r.0)) (r.2.unr (unr_is k.qual f))
+
+-- as many types as there were
+pub at_length : (g : Substitution) (ts : List Ty) → length (all_at g ts) ≡ length ts
+at_length g [] = refl
+at_length g (t ∷ ts) = ap suc (at_length g ts)
+
+pub set_length : {A : Type 0} (xs : List A) (n : ℕ) (x : A) → length (slice_set xs n x) ≡ length xs
+set_length [] n x = refl
+set_length (y ∷ xs) zero x = refl
+set_length (y ∷ xs) (suc n) x = ap suc (set_length xs n x)

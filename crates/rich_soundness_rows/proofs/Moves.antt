@@ -1,5 +1,5 @@
 -- Rows that change operands and locals of the call that runs: what they show, without frames, is enough.
-use Rattle.std.proofs.Common.{◌≡◌, ℕ, ◌+◌, List, [], ◌∷◌, Bool, true, false, Option, sym, ap, ◌∙◌, subst, arith, drop}
+use Rattle.std.proofs.Common.{◌≡◌, ℕ, ◌+◌, List, [], ◌∷◌, Bool, true, false, Option, Some, None, length, refl, sym, ap, ◌∙◌, subst, arith, drop}
 use Rattle.rw_types.specs.declared.instrs.Instr.{Instr, Block', GlobalSet, Call}
 use Rattle.rw_types.specs.declared.types.Ty.{Ty}
 use Rattle.rw_program.specs.declared.linked.LinkedFunc.{LinkedFunc}
@@ -10,7 +10,7 @@ use Rattle.machine_steps.specs.Steps.{Turn, Went, Ended}
 use Rattle.rich_types.specs.Scopes.{scope_of}
 use Rattle.rich_types.specs.Instances.{Substitution}
 use Rattle.rich_typing.specs.declared.notes.Note.{Note}
-use Rattle.rich_rules.specs.Points.{Frame, Point, Demand, Change, Outcome, Gives, changed_to, moved}
+use Rattle.rich_rules.specs.Points.{Frame, Point, Demand, Change, Becomes, Outcome, Gives, changed_to, moved}
 use Rattle.rich_rules.specs.Table.{row}
 use Rattle.rich_rules.specs.Derivations as derive
 use Rattle.rich_rules.specs.Derivations.{Derives, Follows}
@@ -22,7 +22,8 @@ use Rattle.rich_rights.specs.Rights.{Right, rights_to, count_all}
 use Rattle.rich_soundness_values.specs.Heaps.{Heaps, Answer, all_at}
 use Rattle.rich_soundness_values.specs.Values.{HaveTypes}
 use Rattle.rich_soundness_points.specs.Programs.{Fits, AllFit, IsSound}
-use Rattle.rich_soundness_points.specs.Points.{closed, InBody, Callers}
+use Rattle.rich_soundness_points.specs.Points.{closed, Levels, InBody, Callers}
+use Rattle.rich_soundness_rows.proofs.Closed.{at_length, set_length}
 use Rattle.rich_soundness_points.specs.Good.{AreSet, Runs, in_body, in_own_list, sets_global, at_end, Good, Fine, IsSafeAt}
 
 -- what a row is told: it breaks no rule, and operands and locals have the types of its point, where names and closed types stand
@@ -48,6 +49,11 @@ ActsOn funcs f hs q g here c i vs ls = Acts f hs q g i vs ls here c (act funcs i
 
 abbrev pub RowActs : Instr → Type 0
 RowActs i = (funcs : List LinkedFunc) (f : Frame) (hs : Heaps) (q : Point) (g : Substitution) (here : Here) (c : Config) (vs ls : List Val) → Stands hs f q g i vs ls → ActsOn funcs f hs q g here c i vs ls
+
+-- a change leaves as many locals
+pub change_length : (change : Option Change) (ts : List Ty) → length (changed_to change ts) ≡ length ts
+change_length None ts = refl
+change_length (Some (Becomes n t)) ts = set_length ts n t
 
 -- whether the program's own list may go on with an instruction
 abbrev pub is_own : Instr → Bool
@@ -100,7 +106,8 @@ module _ (i : Instr) (row_acts : RowActs i) (p : Program) (c : Config) (rest : L
           seen = ap (λ (x : Point). closed (all_at b.goes_on.answers (changed_to change b.goes_on.point.locals)) x.labels x.results (all_at b.goes_on.answers given)) b.goes_on.seen;
           sized = b.goes_on.sized;
         };
-        levels = b.levels;
+        levels = subst (λ (n : ℕ). Levels p good.heaps owner results n b.labels b.demand c.here.levels)
+            (ap (λ (y : Point). length y.locals) b.goes_on.seen ∙ at_length b.goes_on.answers b.goes_on.point.locals ∙ sym (change_length change b.goes_on.point.locals) ∙ sym (at_length b.goes_on.answers (changed_to change b.goes_on.point.locals))) b.levels;
         locals_typed = hl;
         gives = b.gives;
       }) hv callers;

@@ -70,10 +70,6 @@ module _ (g : Substitution) where
   at_drop (suc n) [] = refl
   at_drop (suc n) (t ∷ ts) = at_drop n ts
 
-  pub at_length : (ts : List Ty) → length (all_at g ts) ≡ length ts
-  at_length [] = refl
-  at_length (t ∷ ts) = ap suc (at_length ts)
-
 -- counts on top and beneath
 pub count_split : (c : Counter) (n : ℕ) (vs : List Val) → count_all c (take n vs) + count_all c (drop n vs) ≡ count_all c vs
 count_split c zero vs = omega arith

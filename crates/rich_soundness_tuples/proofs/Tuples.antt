@@ -30,10 +30,10 @@ use Rattle.rich_rights_laws.proofs.Sums.{values}
 use Rattle.rich_soundness_values.specs.Heaps.{Heaps, Answer, AreUnr, all_at, at}
 use Rattle.rich_soundness_values.specs.Values.{HasType, HaveTypes, more_types, HaveParts, is_tuple, is_code}
 use Rattle.rich_soundness_rows.proofs.Moves.{ActsOn, moves, RowActs, safe}
-use Rattle.rich_soundness_rows.proofs.Closed.{unr_at}
+use Rattle.rich_soundness_rows.proofs.Closed.{unr_at, at_length}
 use Rattle.rich_soundness_rows.proofs.Forms.{tuple_of}
 use Rattle.rich_soundness_tuples.specs.Laws.{TupleRowsAreSafe}
-use Rattle.rich_soundness_tuples.proofs.Lists.{top, have_length, have_append, parts_typed, list_typed, have_reverse, have_take, have_drop, at_append, at_reverse, at_take, at_drop, at_length, count_split}
+use Rattle.rich_soundness_tuples.proofs.Lists.{top, have_length, have_append, parts_typed, list_typed, have_reverse, have_take, have_drop, at_append, at_reverse, at_take, at_drop, count_split}
 
 -- parts of what is `unr` are `unr`
 least : (c : Scope) (t : Ty) → IsAtMost (qual_under c t) Unr → qual_under c t ≡ Unr
