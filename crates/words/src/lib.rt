@@ -7,7 +7,7 @@ ghost use Rattle.std.specs.Prelude.{◌≡◌, ◌↔◌, map, string_bytes, IfO
 ghost use Rattle.std.specs.Option.{option_map};
 ghost use Rattle.words.specs.Words.{SpellsCommand};
 ghost use Rattle.words.specs.Found.{Finds};
-ghost use Rattle.words.specs.Commands.{spelled_command, HasPages};
+ghost use Rattle.words.specs.Commands.{spelled_command, InRanges};
 
 mod by_clap;
 mod files;
@@ -26,6 +26,9 @@ use std::alloc::{AllocError, Global};
 #[derive(Clone, Copy)]
 pub enum Command<'a> {
     Build(Build<'a>),
+    Run(Run<'a>),
+    Exec(Exec<'a>),
+    Show(Show<'a>),
     Dump(Dump<'a>),
 }
 
@@ -36,6 +39,29 @@ pub struct Build<'a> {
     pub lin: u32,
     pub unr: u32,
     pub name: &'a str,
+    pub source: SourceFile<'a>,
+}
+
+/// The command `run`: a run of the file `source` of `steps` steps at most, with `lin` pages of the linear part and
+/// `unr` pages of the unrestricted region, of 65,536 bytes each; this project's own.
+#[derive(Clone, Copy)]
+pub struct Run<'a> {
+    pub lin: u32,
+    pub unr: u32,
+    pub steps: u64,
+    pub source: SourceFile<'a>,
+}
+
+/// The command `exec`: a run of the binary `file` of `steps` steps at most; this project's own.
+#[derive(Clone, Copy)]
+pub struct Exec<'a> {
+    pub steps: u64,
+    pub file: &'a str,
+}
+
+/// The command `show`: the canonical text of the file `source`; this project's own.
+#[derive(Clone, Copy)]
+pub struct Show<'a> {
     pub source: SourceFile<'a>,
 }
 
@@ -63,7 +89,7 @@ pub struct Dump<'a> {
 /// while `clap` read them; this project's own.
 pub fn read_words<'a>(alloc: Global, words: &'a [String]) -> Result<Option<Command<'a>>, AllocError>
     ensures command { IfOk result (λ command. Finds (SpellsCommand (map string_bytes words.now)) (option_map spelled_command command)) }
-    ensures pages { IfOk result (λ command. IfSome command (λ command. HasPages (spelled_command command))) }
+    ensures ranges { IfOk result (λ command. IfSome command (λ command. InRanges (spelled_command command))) }
 {
     let Some(plain) = plain_command(words) else {
         return Ok(None);
