@@ -7,7 +7,7 @@ ghost use Rattle.std.specs.Prelude.{◌≡◌, ◌↔◌, map, string_bytes, IfO
 ghost use Rattle.std.specs.Option.{option_map};
 ghost use Rattle.words.specs.Words.{SpellsCommand};
 ghost use Rattle.words.specs.Found.{Finds};
-ghost use Rattle.words.specs.Commands.{spelled_command, InRanges};
+ghost use Rattle.words.specs.Commands.{spelled_command, spelled_source, InRanges};
 
 mod by_clap;
 mod files;
@@ -108,11 +108,25 @@ fn is_same(read: &Command<'_>, plain: &Command<'_>) -> bool
             read.lin == plain.lin
                 && read.unr == plain.unr
                 && read.name == plain.name
-                && read.source.file == plain.source.file
-                && read.source.name == plain.source.name
-                && read.source.kind == plain.source.kind
+                && is_same_source(&read.source, &plain.source)
         }
+        (Command::Run(read), Command::Run(plain)) => {
+            read.lin == plain.lin
+                && read.unr == plain.unr
+                && read.steps == plain.steps
+                && is_same_source(&read.source, &plain.source)
+        }
+        (Command::Exec(read), Command::Exec(plain)) => {
+            read.steps == plain.steps && read.file == plain.file
+        }
+        (Command::Show(read), Command::Show(plain)) => is_same_source(&read.source, &plain.source),
         (Command::Dump(read), Command::Dump(plain)) => read.file == plain.file,
         _ => false,
     }
+}
+
+fn is_same_source(read: &SourceFile<'_>, plain: &SourceFile<'_>) -> bool
+    ensures { IsTrue result ↔ (spelled_source read.now ≡ spelled_source plain.now) }
+{
+    read.file == plain.file && read.name == plain.name && read.kind == plain.kind
 }
