@@ -8,9 +8,9 @@ use Rattle.std.proofs.lemmas.Slice.Eq.{bytes_eq-Decides}
 use Rattle.words.specs.declared.SourceKind.TheVariants.{Rich}
 use Rattle.words.specs.Files.{is_plain_name, is_source_file, module_name_of}
 use Rattle.words.specs.Found.{Finds}
-use Rattle.words.specs.Reading.{settings_of, files_after}
-use Rattle.words.specs.Words.{Setting, GivesNumber, GivesName, IsNumber, values_for, Command, build, dump, Source, IsSourceNamed, SpellsCommand, CommandOrNone}
-use Rattle.words.proofs.Spelling.{GivesBuild, spells_build, spells_dump, no_build, no_dump, no_command, no_words, head_is}
+use Rattle.words.specs.Reading.{settings_of, files_after, IsOnlySource, IsOnlyName}
+use Rattle.words.specs.Words.{Setting, HaveFlags, GivesNumber, GivesPages, GivesSteps, GivesName, IsNumber, values_for, Command, build, run, exec, show, dump, Source, IsSourceNamed, SpellsCommand, CommandOrNone}
+use Rattle.words.proofs.Spelling.{spells, no_build, no_run, no_exec, no_show, no_dump, no_command, no_words, head_is}
 
 -- a thing of which this holds, or none
 record Sought {T : Type 0} (P : T → Type 0) : Type 0 where
@@ -92,85 +92,107 @@ source_sought file = elim (true_or_not (is_source_file file)) [
     named plain (Some name) e = there (IsSourceNamed file) (record { file = file; name = name; kind = Rich }) (record { same = refl; plain = plain; named = e; language = refl })
     named plain None e = nowhere (IsSourceNamed file) (λ source is. let bad = sym e ∙ is.named in absurd cc)
 
--- what the words after `build` give
-record GivesSome (rest : List (List ℕ)) : Type 0 where
-  lin : ℕ
-  unr : ℕ
-  name : List ℕ
-  source : Source
-  gives : GivesBuild rest lin unr name source
+only_source_sought : (words : List (List ℕ)) → Sought (IsOnlySource words)
+only_source_sought words = from_one (one_sought words).found (one_sought words).finds
+  where
+    of_file : (file : List ℕ) → words ≡ file ∷ [] → (found : Option Source) → Finds (IsSourceNamed file) found → Sought (IsOnlySource words)
+    of_file file one (Some source) is =
+        there (IsOnlySource words) source (one ∙ ap (λ (own : List ℕ). own ∷ []) (sym is.same), subst (λ (own : List ℕ). IsSourceNamed own source) (sym is.same) is)
+    of_file file one None none =
+        nowhere (IsOnlySource words) (λ source g. none source (subst (λ (own : List ℕ). IsSourceNamed own source) (head_is source.file file [] [] (sym g.0 ∙ one)) g.1))
 
-module _ (rest : List (List ℕ)) where
-  abbrev GivesNone : Type 0
-  GivesNone = (lin unr : ℕ) (name : List ℕ) (source : Source) → GivesBuild rest lin unr name source → ⊥
+    from_one : (found : Option (List ℕ)) → Finds (λ (word : List ℕ). words ≡ word ∷ []) found → Sought (IsOnlySource words)
+    from_one None none = nowhere (IsOnlySource words) (λ source g. none source.file g.0)
+    from_one (Some file) one = of_file file one (source_sought file).found (source_sought file).finds
 
-  abbrev flags_known : Bool
-  flags_known = list_all (λ (setting : Setting). list_any (bytes_eq setting.flag) (codes "-o" ∷ codes "--lin" ∷ codes "--unr" ∷ [])) (settings_of rest)
+-- two things, each sought where it stands
+both_found : {A B : Type 0} (P : A → Type 0) (Q : B → Type 0) (a : Option A) → Finds P a → (b : Option B) → Finds Q b → Sought (λ (x : A × B). P x.0 × Q x.1)
+both_found {A} {B} P Q (Some a) p (Some b) q = there (λ (x : A × B). P x.0 × Q x.1) (a, b) (p, q)
+both_found {A} {B} P Q (Some a) p None q = nowhere (λ (x : A × B). P x.0 × Q x.1) (λ x is. q x.1 is.1)
+both_found {A} {B} P Q None p b q = nowhere (λ (x : A × B). P x.0 × Q x.1) (λ x is. p x.0 is.0)
 
-  with_source : flags_known ≡ true → (lin : ℕ) → GivesNumber 1 512 16 (values_for (codes "--lin") (settings_of rest)) lin → (unr : ℕ) → GivesNumber 0 512 16 (values_for (codes "--unr") (settings_of rest)) unr →
-      (name : List ℕ) → GivesName (values_for (codes "-o") (settings_of rest)) name → (file : List ℕ) → files_after rest ≡ file ∷ [] → (found : Option Source) → Finds (IsSourceNamed file) found → GivesSome rest ⊎ GivesNone
-  with_source known lin l unr u name n file f (Some source) is = inl (record {
-    lin = lin;
-    unr = unr;
-    name = name;
-    source = source;
-    gives = record { flags = known; lin_given = l; unr_given = u; name_given = n; file_is = f ∙ ap (λ (own : List ℕ). own ∷ []) (sym is.same); of_source = subst (λ (own : List ℕ). IsSourceNamed own source) (sym is.same) is };
-  })
-  with_source known lin l unr u name n file f None none = inr (λ a b c source g. none source (subst (λ (own : List ℕ). IsSourceNamed own source) (head_is source.file file [] [] (sym g.file_is ∙ f)) g.of_source))
+both_sought : {A B : Type 0} (P : A → Type 0) (Q : B → Type 0) → Sought P → Sought Q → Sought (λ (x : A × B). P x.0 × Q x.1)
+both_sought P Q p q = both_found P Q p.found p.finds q.found q.finds
 
-  with_file : flags_known ≡ true → (lin : ℕ) → GivesNumber 1 512 16 (values_for (codes "--lin") (settings_of rest)) lin → (unr : ℕ) → GivesNumber 0 512 16 (values_for (codes "--unr") (settings_of rest)) unr →
-      (name : List ℕ) → GivesName (values_for (codes "-o") (settings_of rest)) name → (found : Option (List ℕ)) → Finds (λ (file : List ℕ). files_after rest ≡ file ∷ []) found → GivesSome rest ⊎ GivesNone
-  with_file known lin l unr u name n (Some file) f = with_source known lin l unr u name n file f (source_sought file).found (source_sought file).finds
-  with_file known lin l unr u name n None none = inr (λ a b c source g. none source.file g.file_is)
+abbrev ArePagesOf : List Setting → ℕ × ℕ → Type 0
+ArePagesOf settings pages = GivesPages settings pages.0 pages.1
 
-  with_name : flags_known ≡ true → (lin : ℕ) → GivesNumber 1 512 16 (values_for (codes "--lin") (settings_of rest)) lin → (unr : ℕ) → GivesNumber 0 512 16 (values_for (codes "--unr") (settings_of rest)) unr →
-      (found : Option (List ℕ)) → Finds (GivesName (values_for (codes "-o") (settings_of rest))) found → GivesSome rest ⊎ GivesNone
-  with_name known lin l unr u (Some name) n = with_file known lin l unr u name n (one_sought (files_after rest)).found (one_sought (files_after rest)).finds
-  with_name known lin l unr u None none = inr (λ a b name source g. none name g.name_given)
+pages_sought : (settings : List Setting) → Sought (ArePagesOf settings)
+pages_sought settings =
+    both_sought (GivesNumber 1 512 16 (values_for (codes "--lin") settings)) (GivesNumber 0 512 16 (values_for (codes "--unr") settings))
+    (given_sought 1 512 16 (values_for (codes "--lin") settings)) (given_sought 0 512 16 (values_for (codes "--unr") settings))
 
-  with_unr : flags_known ≡ true → (lin : ℕ) → GivesNumber 1 512 16 (values_for (codes "--lin") (settings_of rest)) lin → (found : Option ℕ) → Finds (GivesNumber 0 512 16 (values_for (codes "--unr") (settings_of rest))) found → GivesSome rest ⊎ GivesNone
-  with_unr known lin l (Some unr) u = with_name known lin l unr u (name_sought (values_for (codes "-o") (settings_of rest))).found (name_sought (values_for (codes "-o") (settings_of rest))).finds
-  with_unr known lin l None none = inr (λ a unr name source g. none unr g.unr_given)
-
-  with_lin : flags_known ≡ true → (found : Option ℕ) → Finds (GivesNumber 1 512 16 (values_for (codes "--lin") (settings_of rest))) found → GivesSome rest ⊎ GivesNone
-  with_lin known (Some lin) l =
-      let values = values_for (codes "--unr") (settings_of rest) in
-      with_unr known lin l (given_sought 0 512 16 values).found (given_sought 0 512 16 values).finds
-  with_lin known None none = inr (λ lin unr name source g. none lin g.lin_given)
-
-  build_sought : GivesSome rest ⊎ GivesNone
-  build_sought =
-      let values = values_for (codes "--lin") (settings_of rest) in
-      elim (true_or_not flags_known) [
-        | inl known ↦ with_lin known (given_sought 1 512 16 values).found (given_sought 1 512 16 values).finds
-        | inr unknown ↦ inr (λ lin unr name source g. unknown g.flags)
-      ]
+steps_sought : (settings : List Setting) → Sought (GivesSteps settings)
+steps_sought settings = given_sought 1 1000000000000 100000000 (values_for (codes "--steps") settings)
 
 abbrev Answer : List (List ℕ) → Type 0
 Answer words = (command : Option Command) × Finds (SpellsCommand words) command
 
-after_build : (rest : List (List ℕ)) → Answer (codes "build" ∷ rest)
-after_build rest = elim (build_sought rest) [
-  | inl g ↦ (Some (build g.lin g.unr g.name g.source), spells_build rest g.lin g.unr g.name g.source g.gives)
-  | inr none ↦ (None, no_build rest none)
+-- after a command's word: its options are sought where they are its own, and what they give
+answered : {T : Type 0} (word : List ℕ) (rest flags : List (List ℕ)) (P : T → Type 0) (command : T → Command) → ((x : T) → HaveFlags flags (settings_of rest) → P x → SpellsCommand (word ∷ rest) (command x)) →
+    (((x : T) → HaveFlags flags (settings_of rest) → P x → ⊥) → (c : Command) → SpellsCommand (word ∷ rest) c → ⊥) → Sought P → Answer (word ∷ rest)
+answered {T} word rest flags P command some none sought = elim (true_or_not (list_all (λ (setting : Setting). list_any (bytes_eq setting.flag) flags) (settings_of rest))) [
+  | inl own ↦ of_found own sought.found sought.finds
+  | inr other ↦ (None, none (λ x own is. other own))
 ]
+  where
+    of_found : HaveFlags flags (settings_of rest) → (found : Option T) → Finds P found → Answer (word ∷ rest)
+    of_found own (Some x) is = (Some (command x), some x own is)
+    of_found own None unfound = (None, none (λ x flags is. unfound x is))
+
+after_build : (rest : List (List ℕ)) → Answer (codes "build" ∷ rest)
+after_build rest =
+    let settings = settings_of rest in
+    let P = λ (x : (ℕ × ℕ) × List ℕ). ArePagesOf settings x.0 × GivesName (values_for (codes "-o") settings) x.1 in
+    answered (codes "build") rest (codes "-o" ∷ codes "--lin" ∷ codes "--unr" ∷ []) (λ (x : ((ℕ × ℕ) × List ℕ) × Source). P x.0 × IsOnlySource (files_after rest) x.1)
+    (λ (x : ((ℕ × ℕ) × List ℕ) × Source). build x.0.0.0 x.0.0.1 x.0.1 x.1)
+    (λ x own is. spells rest (build x.0.0.0 x.0.0.1 x.0.1 x.1) (record { flags = own; given = is.0; after = is.1.0; files = is.1.1 }))
+    (λ none. no_build rest (λ lin unr name source g. none (((lin, unr), name), source) g.flags (g.given, (g.after, g.files))))
+    (both_sought P (IsOnlySource (files_after rest)) (both_sought (ArePagesOf settings) (GivesName (values_for (codes "-o") settings)) (pages_sought settings) (name_sought (values_for (codes "-o") settings))) (only_source_sought (files_after rest)))
+
+after_run : (rest : List (List ℕ)) → Answer (codes "run" ∷ rest)
+after_run rest =
+    let settings = settings_of rest in
+    let P = λ (x : (ℕ × ℕ) × ℕ). ArePagesOf settings x.0 × GivesSteps settings x.1 in
+    answered (codes "run") rest (codes "--lin" ∷ codes "--unr" ∷ codes "--steps" ∷ []) (λ (x : ((ℕ × ℕ) × ℕ) × Source). P x.0 × IsOnlySource (files_after rest) x.1)
+    (λ (x : ((ℕ × ℕ) × ℕ) × Source). run x.0.0.0 x.0.0.1 x.0.1 x.1)
+    (λ x own is. spells rest (run x.0.0.0 x.0.0.1 x.0.1 x.1) (record { flags = own; given = is.0; after = is.1.0; files = is.1.1 }))
+    (λ none. no_run rest (λ lin unr steps source g. none (((lin, unr), steps), source) g.flags (g.given, (g.after, g.files))))
+    (both_sought P (IsOnlySource (files_after rest)) (both_sought (ArePagesOf settings) (GivesSteps settings) (pages_sought settings) (steps_sought settings)) (only_source_sought (files_after rest)))
+
+after_exec : (rest : List (List ℕ)) → Answer (codes "exec" ∷ rest)
+after_exec rest =
+    let settings = settings_of rest in
+    answered (codes "exec") rest (codes "--steps" ∷ []) (λ (x : ℕ × List ℕ). GivesSteps settings x.0 × IsOnlyName (files_after rest) x.1)
+    (λ (x : ℕ × List ℕ). exec x.0 x.1)
+    (λ x own is. spells rest (exec x.0 x.1) (record { flags = own; given = is.0; after = is.1.0; files = is.1.1 }))
+    (λ none. no_exec rest (λ steps file g. none (steps, file) g.flags (g.given, (g.after, g.files))))
+    (both_sought (GivesSteps settings) (IsOnlyName (files_after rest)) (steps_sought settings) (name_sought (files_after rest)))
+
+after_show : (rest : List (List ℕ)) → Answer (codes "show" ∷ rest)
+after_show rest =
+    answered (codes "show") rest [] (IsOnlySource (files_after rest)) show
+    (λ source own is. spells rest (show source) (record { flags = own; given = tt; after = is.0; files = is.1 }))
+    (λ none. no_show rest (λ source g. none source g.flags (g.after, g.files)))
+    (only_source_sought (files_after rest))
 
 after_dump : (rest : List (List ℕ)) → Answer (codes "dump" ∷ rest)
-after_dump rest = with_word (one_sought rest).found (one_sought rest).finds
-  where
-    with_word : (found : Option (List ℕ)) → Finds (λ (file : List ℕ). rest ≡ file ∷ []) found → Answer (codes "dump" ∷ rest)
-    with_word None none = (None, no_dump rest (λ file g. none file g.file_is))
-    with_word (Some file) is = elim (true_or_not (is_plain_name file)) [
-      | inl plain ↦ (Some (dump file), spells_dump rest file (record { file_is = is; plain = plain }))
-      | inr dashed ↦ (None, no_dump rest (λ other g. dashed (ap is_plain_name (head_is file other [] [] (sym is ∙ g.file_is)) ∙ g.plain)))
-    ]
+after_dump rest =
+    answered (codes "dump") rest [] (IsOnlyName (files_after rest)) dump
+    (λ file own is. spells rest (dump file) (record { flags = own; given = tt; after = is.0; files = is.1 }))
+    (λ none. no_dump rest (λ file g. none file g.flags (g.after, g.files)))
+    (name_sought (files_after rest))
+
+-- words that begin with a word, or not
+choose : (word : List ℕ) (rest : List (List ℕ)) (first : List ℕ) → Answer (first ∷ rest) → ((word ≡ first → ⊥) → Answer (word ∷ rest)) → Answer (word ∷ rest)
+choose word rest first same other = elim (same_or_not word first) [ inl is ↦ subst (λ (w : List ℕ). Answer (w ∷ rest)) (sym is) same | inr not_it ↦ other not_it ]
 
 pub command_or_none : CommandOrNone
 command_or_none [] = (None, no_words)
-command_or_none (word ∷ rest) = elim (same_or_not word (codes "build")) [
-  | inl is ↦ subst (λ (w : List ℕ). Answer (w ∷ rest)) (sym is) (after_build rest)
-  | inr not_build ↦ elim (same_or_not word (codes "dump")) [
-    | inl is ↦ subst (λ (w : List ℕ). Answer (w ∷ rest)) (sym is) (after_dump rest)
-    | inr not_dump ↦ (None, λ command s. no_command word rest command not_build not_dump s)
-  ]
-]
+command_or_none (word ∷ rest) =
+    choose word rest (codes "build") (after_build rest) (λ not_build.
+    choose word rest (codes "run") (after_run rest) (λ not_run.
+    choose word rest (codes "exec") (after_exec rest) (λ not_exec.
+    choose word rest (codes "show") (after_show rest) (λ not_show.
+    choose word rest (codes "dump") (after_dump rest) (λ not_dump.
+    (None, λ command s. no_command word rest command not_build not_run not_exec not_show not_dump s))))))

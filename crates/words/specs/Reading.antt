@@ -1,8 +1,9 @@
--- How words are taken apart from the front: options while a word begins with a dash, and then files.
-use Rattle.std.specs.Prelude.{◌≡◌, ℕ, List, [], ◌∷◌, Bool, false, if◌then◌else◌, ◌==◌, map, string_bytes}
+-- How words are taken apart from the front: options while a word begins with a dash, and then files; which files they are.
+use Rattle.std.specs.Prelude.{◌≡◌, ℕ, List, [], ◌∷◌, Bool, true, false, if◌then◌else◌, ◌==◌, map, string_bytes}
 use Rattle.std.specs.declared.option.Option.{Option}
 use Rattle.std.specs.declared.option.Option.TheVariants.{None, Some}
-use Rattle.words.specs.Words.{Setting}
+use Rattle.words.specs.Files.{is_plain_name}
+use Rattle.words.specs.Words.{Setting, Source, IsSourceNamed}
 use Rattle.words.specs.declared.options.Front.{Front}
 use Rattle.words.specs.declared.options.Given.{Given}
 use Rattle.words.specs.declared.options.Given.TheVariants.{Never, Once, Often}
@@ -28,6 +29,14 @@ abbrev pub files_after : List (List ℕ) → List (List ℕ)
 files_after [] = []
 files_after (flag ∷ []) = flag ∷ []
 files_after (flag ∷ value ∷ rest) = if begins_with_dash flag then files_after rest else flag ∷ value ∷ rest
+
+-- the only one of the words is a source
+abbrev pub IsOnlySource : List (List ℕ) → Source → Type 0
+IsOnlySource words source = (words ≡ source.file ∷ []) × IsSourceNamed source.file source
+
+-- the only one of the words is a name
+abbrev pub IsOnlyName : List (List ℕ) → List ℕ → Type 0
+IsOnlyName words name = (words ≡ name ∷ []) × (is_plain_name name ≡ true)
 
 -- what the code's front says
 abbrev pub shown_front : Front → Setting × List (List ℕ)

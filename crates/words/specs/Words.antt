@@ -59,39 +59,66 @@ pub record IsSourceNamed (file : List ℕ) (source : Source) : Type 0 where
   pub named : module_name_of file ≡ Some source.name
   pub language : source.kind ≡ Rich
 
+-- the pages that options give: 1 to 512 of the linear part, 0 to 512 of the unrestricted region, or 16 of each
+abbrev pub GivesPages : List Setting → ℕ → ℕ → Type 0
+GivesPages settings lin unr =
+    GivesNumber 1 512 16 (values_for (codes "--lin") settings) lin × GivesNumber 0 512 16 (values_for (codes "--unr") settings) unr
+
+-- the steps that options give: 1 to 1,000,000,000,000, or 100,000,000
+abbrev pub GivesSteps : List Setting → ℕ → Type 0
+GivesSteps settings steps = GivesNumber 1 1000000000000 100000000 (values_for (codes "--steps") settings) steps
+
 -- one command with its options and files
 pub data Command : Type 0 where
   -- a binary under a name of a file, with so many pages of the linear part and of the unrestricted region
   build : (lin unr : ℕ) (name : List ℕ) (source : Source) → Command
+  -- a run of a file, with so many pages of each, of so many steps at most
+  run : (lin unr steps : ℕ) (source : Source) → Command
+  -- a run of a binary, of so many steps at most
+  exec : (steps : ℕ) (file : List ℕ) → Command
+  -- the canonical text of a file
+  show : (source : Source) → Command
   -- the counts of a binary
   dump : (file : List ℕ) → Command
 
 -- the first word
 abbrev pub command_word : Command → List ℕ
 command_word (build lin unr name source) = codes "build"
+command_word (run lin unr steps source) = codes "run"
+command_word (exec steps file) = codes "exec"
+command_word (show source) = codes "show"
 command_word (dump file) = codes "dump"
 
 -- the options that a command may have
 abbrev pub flags_of : Command → List (List ℕ)
 flags_of (build lin unr name source) = codes "-o" ∷ codes "--lin" ∷ codes "--unr" ∷ []
+flags_of (run lin unr steps source) = codes "--lin" ∷ codes "--unr" ∷ codes "--steps" ∷ []
+flags_of (exec steps file) = codes "--steps" ∷ []
+flags_of (show source) = []
 flags_of (dump file) = []
 
 -- what its options give
 abbrev pub HasSettings : Command → List Setting → Type 0
-HasSettings (build lin unr name source) settings =
-    GivesNumber 1 512 16 (values_for (codes "--lin") settings) lin
-    × GivesNumber 0 512 16 (values_for (codes "--unr") settings) unr
-    × GivesName (values_for (codes "-o") settings) name
+HasSettings (build lin unr name source) settings = GivesPages settings lin unr × GivesName (values_for (codes "-o") settings) name
+HasSettings (run lin unr steps source) settings = GivesPages settings lin unr × GivesSteps settings steps
+HasSettings (exec steps file) settings = GivesSteps settings steps
+HasSettings (show source) settings = Unit {0}
 HasSettings (dump file) settings = Unit {0}
 
 -- the words after the options
 abbrev pub files_of : Command → List (List ℕ)
 files_of (build lin unr name source) = source.file ∷ []
+files_of (run lin unr steps source) = source.file ∷ []
+files_of (exec steps file) = file ∷ []
+files_of (show source) = source.file ∷ []
 files_of (dump file) = file ∷ []
 
 -- which files a command takes
 abbrev pub HasFiles : Command → Type 0
 HasFiles (build lin unr name source) = IsSourceNamed source.file source
+HasFiles (run lin unr steps source) = IsSourceNamed source.file source
+HasFiles (exec steps file) = is_plain_name file ≡ true
+HasFiles (show source) = IsSourceNamed source.file source
 HasFiles (dump file) = is_plain_name file ≡ true
 
 -- words of the plain form spell a command

@@ -1,8 +1,9 @@
-// The names of files: which are plain words, and which are those of sources.
-ghost use Rattle.std.specs.Prelude.{◌≡◌, ◌==◌, ◌<◌, ◌+◌, ◌^◌, length, position, IfSome};
+// The names of files: which are plain words, and which are those of sources; the only file of words.
+ghost use Rattle.std.specs.Prelude.{◌≡◌, [], ◌∷◌, map, string_bytes, ◌==◌, ◌<◌, ◌+◌, ◌^◌, length, position, IfSome};
 ghost use Rattle.std.specs.Option.{option_copied, option_map};
 ghost use Rattle.words.specs.Files.{is_plain_name, is_source_file, is_module_name, after_last_slash, module_name_of};
 ghost use Rattle.words.specs.Found.{Finds};
+ghost use Rattle.words.specs.Reading.{IsOnlySource, IsOnlyName};
 ghost use Rattle.words.specs.Words.{IsSourceNamed};
 ghost use Rattle.words.specs.Commands.{spelled_source};
 ghost use Rattle.rw_types.specs.Names.{IsName};
@@ -17,6 +18,32 @@ pub fn is_plain(word: &str) -> bool
     match word.as_bytes() {
         [] => false,
         [first, ..] => *first != b'-',
+    }
+}
+
+/// The source file that is the only one of the words. `None` where there is no such one.
+pub fn only_source<'a>(words: &'a [String]) -> Option<SourceFile<'a>>
+    ensures { Finds (IsOnlySource (map string_bytes words.now)) (option_map spelled_source result) }
+{
+    source_file(only_word(words)?)
+}
+
+/// The name that is the only one of the words. `None` where there is no such one.
+pub fn only_name<'a>(words: &'a [String]) -> Option<&'a str>
+    ensures { Finds (IsOnlyName (map string_bytes words.now)) (option_map (λ name. name.now) result) }
+{
+    match only_word(words) {
+        Some(name) if is_plain(name) => Some(name),
+        _ => None,
+    }
+}
+
+fn only_word<'a>(words: &'a [String]) -> Option<&'a str>
+    ensures { Finds (λ word. map string_bytes words.now ≡ word ∷ []) (option_map (λ word. word.now) result) }
+{
+    match words {
+        [word] => Some(word.as_str()),
+        _ => None,
     }
 }
 

@@ -7,7 +7,7 @@ ghost use Rattle.std.specs.Prelude.{◌≡◌, ◌↔◌, map, string_bytes, IfO
 ghost use Rattle.std.specs.Option.{option_map};
 ghost use Rattle.words.specs.Words.{SpellsCommand};
 ghost use Rattle.words.specs.Found.{Finds};
-ghost use Rattle.words.specs.Commands.{spelled_command, HasPages};
+ghost use Rattle.words.specs.Commands.{spelled_command, spelled_source, InRanges};
 
 mod by_clap;
 mod files;
@@ -26,6 +26,9 @@ use std::alloc::{AllocError, Global};
 #[derive(Clone, Copy)]
 pub enum Command<'a> {
     Build(Build<'a>),
+    Run(Run<'a>),
+    Exec(Exec<'a>),
+    Show(Show<'a>),
     Dump(Dump<'a>),
 }
 
@@ -36,6 +39,29 @@ pub struct Build<'a> {
     pub lin: u32,
     pub unr: u32,
     pub name: &'a str,
+    pub source: SourceFile<'a>,
+}
+
+/// The command `run`: a run of the file `source` of `steps` steps at most, with `lin` pages of the linear part and
+/// `unr` pages of the unrestricted region, of 65,536 bytes each; this project's own.
+#[derive(Clone, Copy)]
+pub struct Run<'a> {
+    pub lin: u32,
+    pub unr: u32,
+    pub steps: u64,
+    pub source: SourceFile<'a>,
+}
+
+/// The command `exec`: a run of the binary `file` of `steps` steps at most; this project's own.
+#[derive(Clone, Copy)]
+pub struct Exec<'a> {
+    pub steps: u64,
+    pub file: &'a str,
+}
+
+/// The command `show`: the canonical text of the file `source`; this project's own.
+#[derive(Clone, Copy)]
+pub struct Show<'a> {
     pub source: SourceFile<'a>,
 }
 
@@ -63,7 +89,7 @@ pub struct Dump<'a> {
 /// while `clap` read them; this project's own.
 pub fn read_words<'a>(alloc: Global, words: &'a [String]) -> Result<Option<Command<'a>>, AllocError>
     ensures command { IfOk result (λ command. Finds (SpellsCommand (map string_bytes words.now)) (option_map spelled_command command)) }
-    ensures pages { IfOk result (λ command. IfSome command (λ command. HasPages (spelled_command command))) }
+    ensures ranges { IfOk result (λ command. IfSome command (λ command. InRanges (spelled_command command))) }
 {
     let Some(plain) = plain_command(words) else {
         return Ok(None);
@@ -82,11 +108,25 @@ fn is_same(read: &Command<'_>, plain: &Command<'_>) -> bool
             read.lin == plain.lin
                 && read.unr == plain.unr
                 && read.name == plain.name
-                && read.source.file == plain.source.file
-                && read.source.name == plain.source.name
-                && read.source.kind == plain.source.kind
+                && is_same_source(&read.source, &plain.source)
         }
+        (Command::Run(read), Command::Run(plain)) => {
+            read.lin == plain.lin
+                && read.unr == plain.unr
+                && read.steps == plain.steps
+                && is_same_source(&read.source, &plain.source)
+        }
+        (Command::Exec(read), Command::Exec(plain)) => {
+            read.steps == plain.steps && read.file == plain.file
+        }
+        (Command::Show(read), Command::Show(plain)) => is_same_source(&read.source, &plain.source),
         (Command::Dump(read), Command::Dump(plain)) => read.file == plain.file,
         _ => false,
     }
+}
+
+fn is_same_source(read: &SourceFile<'_>, plain: &SourceFile<'_>) -> bool
+    ensures { IsTrue result ↔ (spelled_source read.now ≡ spelled_source plain.now) }
+{
+    read.file == plain.file && read.name == plain.name && read.kind == plain.kind
 }

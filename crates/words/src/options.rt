@@ -1,4 +1,4 @@
-// Options at the front of words, each of them two words.
+// Options at the front of words, each of them two words, and the words after them.
 ghost use Rattle.std.specs.Prelude.{◌≡◌, ◌<◌, ◌≤◌, ◌++◌, ℕ, List, [], ◌∷◌, map, string_bytes, length, IfSome};
 ghost use Rattle.std.specs.Option.{option_map, option_copied};
 ghost use Rattle.std.specs.List.{list_all, list_any};
@@ -53,8 +53,8 @@ fn take_front<'a>(words: &'a [String]) -> Option<Front<'a>>
     }
 }
 
-// The words after the options.
-fn files<'a>(words: &'a [String]) -> &'a [String]
+/// The words after the options.
+pub fn files<'a>(words: &'a [String]) -> &'a [String]
     ensures { map string_bytes result.now ≡ files_after (map string_bytes words.now) }
 {
     let mut rest = words;
@@ -62,23 +62,6 @@ fn files<'a>(words: &'a [String]) -> &'a [String]
         rest = front.rest;
     }
     rest
-}
-
-/// The only word after the options. `None` where there is none, or there are more.
-pub fn only_file<'a>(words: &'a [String]) -> Option<&'a str>
-    ensures { Finds (λ file. files_after (map string_bytes words.now) ≡ file ∷ []) (option_map (λ file. file.now) result) }
-{
-    only_word(files(words))
-}
-
-/// The only one of the words. `None` where there is none, or there are more.
-pub fn only_word<'a>(words: &'a [String]) -> Option<&'a str>
-    ensures { Finds (λ word. map string_bytes words.now ≡ word ∷ []) (option_map (λ word. word.now) result) }
-{
-    match words {
-        [word] => Some(word.as_str()),
-        _ => None,
-    }
 }
 
 /// Whether each option is one of these.
