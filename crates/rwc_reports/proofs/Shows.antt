@@ -8,12 +8,13 @@ use Rattle.rw_io.specs.Files.{NamedFile}
 use Rattle.words.specs.Words.{Source}
 use Rattle.rwc_reports.specs.ExecutionLaws.{OneShow, ShownIsCanonical, joined}
 use Rattle.rwc_reports.specs.Jobs.{Job, refusal_job, lines_job}
+use Rattle.rwc_reports.specs.Laws.{AreOfBytes}
 use Rattle.rwc_reports.specs.Shows.{before_lines, lines_of, shown_lines, ShownLeads, ShowReports}
 use Rattle.rwc_reports.specs.Sources.{FileLoads, TextReads}
 use Rattle.rwc_reports.specs.Steps.{Refused, goes_on, stops, IsOneOf}
 use Rattle.rwc_reports.proofs.Causes.{load_status, text_status}
-use Rattle.rwc_reports.proofs.OneReport.{one_load, one_text}
-use Rattle.rwc_reports.proofs.SomeReport.{some_load, some_text}
+use Rattle.rwc_reports.proofs.OneAnswer.{one_load, one_text}
+use Rattle.rwc_reports.proofs.SomeAnswer.{some_load, some_text}
 use Rattle.rwc_reports.proofs.Steps.{same_refused, not_both, one_then, some_then}
 
 module _ (source : Source) where
@@ -23,15 +24,17 @@ module _ (source : Source) where
       inr (inr (inl (ap (λ (j : Job). j.status) e ∙ ap (λ (p : Refused). p.status) (same_refused r q f) ∙ load_status told source.file q load)))
   show_status told job (stops r (goes_on bytes load text) e) = inr (inl (ap (λ (j : Job). j.status) e ∙ text_status source.kind source.file bytes r text))
 
-pub one_show : OneShow
-one_show source = record {
-  some = λ told all. some_then refusal_job (ShownLeads told source) (λ m j. j ≡ lines_job (shown_lines m) 0)
-      (some_then (λ refused. Err refused) (FileLoads told source.file) (TextReads source.kind source.file) (some_load told source.file) (λ bytes is. some_text source.kind source.file bytes)) (λ m is. (_, refl));
-  one = λ told a b. one_then refusal_job (ShownLeads told source) (λ m j. j ≡ lines_job (shown_lines m) 0)
+  pub some_showing : (told : List NamedFile) → AreOfBytes told → (job : Job) × ShowReports source told job
+  some_showing told all = some_then refusal_job (ShownLeads told source) (λ m j. j ≡ lines_job (shown_lines m) 0)
+      (some_then (λ refused. Err refused) (FileLoads told source.file) (TextReads source.kind source.file) (some_load told source.file) (λ bytes is. some_text source.kind source.file bytes)) (λ m is. (_, refl))
+
+  pub one_showing : (told : List NamedFile) (a b : Job) → ShowReports source told a → ShowReports source told b → a ≡ b
+  one_showing told a b = one_then refusal_job (ShownLeads told source) (λ m j. j ≡ lines_job (shown_lines m) 0)
       (λ r s. one_then (λ refused. Err refused) (FileLoads told source.file) (TextReads source.kind source.file) (one_load told source.file) (λ bytes is. one_text source.kind source.file bytes) r s)
-      (λ m is c d p q. p ∙ sym q) a b;
-  status = show_status source;
-}
+      (λ m is c d p q. p ∙ sym q) a b
+
+pub one_show : OneShow
+one_show source = record { some = some_showing source; one = one_showing source; status = show_status source }
 
 joined_before : (b : ℕ) (lines : List (List ℕ)) → joined (before_lines b lines) ≡ b ∷ joined lines
 joined_before b [] = refl
