@@ -105,7 +105,7 @@ struct Pages {
 }
 
 fn pages_for(rest: &[String]) -> Option<Pages>
-    ensures pages { Finds (λ pages. GivesPages (settings_of (map string_bytes rest.now)) pages.0 pages.1) (option_map (λ pages. (pages.lin, pages.unr)) result) }
+    ensures pages { Finds (λ (pages : ℕ × ℕ). GivesPages (settings_of (map string_bytes rest.now)) pages.0 pages.1) (option_map (λ pages. (pages.lin, pages.unr)) result) }
     ensures ranges { IfSome result (λ pages. ArePages pages.lin pages.unr) }
 {
     let lin = number_for(rest, "--lin", 1, 512, 16)?;
