@@ -1,5 +1,6 @@
 -- What each answer of a call says and leaves, from how it kept to its job.
-use Rattle.std.specs.Prelude.{◌==◌, ◌||◌}
+use Rattle.std.specs.Prelude.{◌==◌, ◌||◌, ◌&&◌}
+use Rattle.std.specs.List.{list_all}
 use Rattle.std.proofs.Common.{◌≡◌, ◌≢◌, ◌⊎◌, inl, inr, ℕ, Bool, true, false, ◌-◌, List, [], ◌∷◌, ◌++◌, length, take, drop, refl, ap, sym, ◌∙◌, subst, arith, append_assoc, Ok, None, Some}
 use Rattle.std.proofs.Math.Seq.{take-append_seam}
 use Rattle.std.proofs.lemmas.List.{append-nil, take-append-drop}
@@ -17,7 +18,7 @@ use Rattle.wasm_spelling.proofs.SpelledModules.{canonical_bytes_spell}
 use Rattle.rw_program.specs.Programs.{Program}
 use Rattle.rw_io.specs.Files.{NamedFile}
 use Rattle.rw_io.specs.States.{ShelfState, SinkState}
-use Rattle.words.specs.Words.{Command, build, dump, Source, SpellsCommand}
+use Rattle.words.specs.Words.{Command, build, run, exec, show, dump, Source, SpellsCommand}
 use Rattle.words.specs.Found.{Finds}
 use Rattle.rwc_reports.specs.Acts.{Act, create, append, put, Outside, after_act, after_acts, outside_of, IsPart, BreaksOff}
 use Rattle.rwc_reports.specs.Answers.{text_of, PutsText, HasStatus, statuses_of, IsRefusal}
@@ -30,10 +31,10 @@ use Rattle.rwc_reports.specs.Lines.{wrote_line}
 use Rattle.rwc_reports.specs.Reports.{build_job, CommandReports, Reports}
 use Rattle.rwc_reports.specs.Sources.{FilesLead}
 use Rattle.rwc_reports.specs.Steps.{Refused, goes_on, stops, IsOneOf}
-use Rattle.rwc_reports.proofs.Causes.{of_files, of_program, Comes, refuses, is_done, comes, job_status, apart}
+use Rattle.rwc_reports.proofs.Causes.{of_built_files, of_built_program, Comes, refuses, is_done, comes, job_status, apart}
 use Rattle.rwc_reports.proofs.LonePrograms.{leads_to_lone}
 use Rattle.rwc_reports.proofs.OneReport.{one_report, reports_found}
-use Rattle.rwc_reports.proofs.SomeReport.{are_pages}
+use Rattle.rwc_reports.proofs.SomeAnswer.{are_pages}
 use Rattle.rwc_reports.proofs.Steps.{same_value, not_both}
 use Rattle.rwc_reports.proofs.Ways.{BuildComes, refused_files, refused_program, is_built, build_comes}
 
@@ -138,23 +139,28 @@ keeps_text Jobs one job right not_four files before after status result line (un
 
 -- the statuses that are some command's
 abbrev is_status : ℕ → Bool
-is_status n = n == 0 || n == 1 || n == 3 || n == 9 || n == 10 || n == 11
+is_status n = n == 0 || n == 1 || n == 3 || n == 6 || n == 7 || n == 9 || n == 10 || n == 11
 
-one_status : (status n k : ℕ) → status ≡ k → status ≡ n → is_status n ≡ false → is_status k ≡ true → ⊥
-one_status status n k e is other own = let bad : true ≡ false = sym own ∙ ap is_status (sym e ∙ is) ∙ other in cc
+all_statuses : (statuses : List ℕ) (status : ℕ) → list_all is_status statuses ≡ true → IsOneOf statuses status → is_status status ≡ true
+all_statuses [] status all none = absurd none
+all_statuses (n ∷ ns) status all one = by_first (is_status n) refl all one
+  where
+    by_first : (b : Bool) → is_status n ≡ b → (b && list_all is_status ns) ≡ true → IsOneOf (n ∷ ns) status → is_status status ≡ true
+    by_first true is more (inl e) = ap is_status e ∙ is
+    by_first true is more (inr later) = all_statuses ns status more later
+    by_first false is more one = absurd (cc)
+
+command_statuses : (command : Command) → list_all is_status (statuses_of (Some command)) ≡ true
+command_statuses (build lin unr name source) = refl
+command_statuses (run lin unr steps source) = refl
+command_statuses (exec steps file) = refl
+command_statuses (show source) = refl
+command_statuses (dump file) = refl
 
 -- the status of a command's job is no other
 pub listed_not : (command : Command) (status n : ℕ) → IsOneOf (statuses_of (Some command)) status → status ≡ n → is_status n ≡ false → ⊥
-listed_not (build lin unr name source) status n (inl e) is other = one_status status n 0 e is other refl
-listed_not (build lin unr name source) status n (inr (inl e)) is other = one_status status n 1 e is other refl
-listed_not (build lin unr name source) status n (inr (inr (inl e))) is other = one_status status n 3 e is other refl
-listed_not (build lin unr name source) status n (inr (inr (inr (inl e)))) is other = one_status status n 10 e is other refl
-listed_not (build lin unr name source) status n (inr (inr (inr (inr (inl e))))) is other = one_status status n 11 e is other refl
-listed_not (build lin unr name source) status n (inr (inr (inr (inr (inr none))))) is other = none
-listed_not (dump file) status n (inl e) is other = one_status status n 0 e is other refl
-listed_not (dump file) status n (inr (inl e)) is other = one_status status n 3 e is other refl
-listed_not (dump file) status n (inr (inr (inl e))) is other = one_status status n 9 e is other refl
-listed_not (dump file) status n (inr (inr (inr none))) is other = none
+listed_not command status n listed is other =
+    let bad : true ≡ false = sym (all_statuses (statuses_of (Some command)) status (command_statuses command) listed) ∙ ap is_status is ∙ other in cc
 
 -- no job has status 4
 status_not_four : (command : Option Command) (status : ℕ) → IsOneOf (statuses_of command) status → status ≡ 4 → ⊥
@@ -205,13 +211,13 @@ module _ (words : List (List ℕ)) (told : List NamedFile) (files : List (List �
     where
       of_comes : Comes told command job → IsRefusedFor words told err err' result
       of_comes (is_done zero) = absurd (apart result 0 refusal (also ∙ zero) refl)
-      of_comes (refuses refused r e) = record {
+      of_comes (refuses refused r same_status same_line) = record {
         command = command;
         spelled = found;
         refused = refused;
         cause = r.cause;
-        is = also ∙ ap (λ (j : Job). j.status) e;
-        tells = tells_other refused err err' (says ∙ ap (λ (j : Job). j.line) e) same tells;
+        is = also ∙ same_status;
+        tells = tells_other refused err err' (says ∙ same_line) same tells;
       }
 
   ends_refused : (job : Job) (acts : List Act) (err err' : SinkState) → JobEnds job acts status line → Reports words told job → result ≡ status → IsRefusal result → Tells line status err err' result → IsRefusedFor words told err err' result
@@ -271,9 +277,9 @@ module _ (told : List NamedFile) (lin unr : ℕ) (name said : List ℕ) (source 
 
   job_stands : (job : Job) (acts : List Act) → ArePages pages → BuildComes told lin unr name source job → job.status ≡ 0 → acts ≡ job.acts → outside_of shelf' out' ≡ after_acts acts (outside_of shelf out) →
       shelf.holding.created ≡ Some created → out.bytes ≡ Some said → Stands
-  job_stands job acts are (refused_files refused files e) zero all after begun heard = absurd (apart refused.status 0 (of_files told lin unr name source refused files).refusal (sym (ap (λ (j : Job). j.status) e) ∙ zero) refl)
+  job_stands job acts are (refused_files refused files e) zero all after begun heard = absurd (apart refused.status 0 (of_built_files lin unr name source told refused files).refusal (sym (ap (λ (j : Job). j.status) e) ∙ zero) refl)
   job_stands job acts are (refused_program program refused leads program_leads e) zero all after begun heard =
-      absurd (apart refused.status 0 (of_program told lin unr name source program refused leads program_leads).refusal (sym (ap (λ (j : Job). j.status) e) ∙ zero) refl)
+      absurd (apart refused.status 0 (of_built_program lin unr name source told program refused leads program_leads).refusal (sym (ap (λ (j : Job). j.status) e) ∙ zero) refl)
   job_stands job acts are (is_built program binary leads program_leads e) zero all after begun heard =
       stands program binary are leads program_leads (after ∙ ap (λ (performed : List Act). after_acts performed (outside_of shelf out)) (all ∙ ap (λ (j : Job). j.acts) e)) begun heard
 

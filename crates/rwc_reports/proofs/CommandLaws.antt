@@ -1,43 +1,48 @@
 -- What is said of one command, from its job.
-use Rattle.std.proofs.Common.{◌≡◌, ◌≢◌, ◌≤◌, ◌⊎◌, inl, inr, ℕ, List, [], ◌∷◌, length, refl, ap, sym, ◌∙◌, subst, arith, Ok, Err, None, Some}
+use Rattle.std.specs.Prelude.{nat_lt, ◌&&◌}
+use Rattle.std.specs.List.{list_all}
+use Rattle.std.proofs.Common.{◌≡◌, ◌≢◌, ◌≤◌, ◌<◌, inl, inr, ℕ, suc, Bool, true, false, List, [], ◌∷◌, length, refl, ap, sym, ◌∙◌, subst, arith, lit<, Ok, Err, None, Some}
+use Rattle.std.proofs.lemmas.Bool.{leb-true}
 use Rattle.std.specs.declared.option.Option.{Option}
 use Rattle.wasm_ast.specs.declared.modules.WModule.{WModule}
 use Rattle.wasm_encode.specs.Contents.{IsFirstTooLong}
+use Rattle.wasm_execution.specs.Behaviour.{wasm}
 use Rattle.wasm_grammar.specs.GrammarModules.{SpellsModule}
 use Rattle.wasm_reading.specs.declared.fault.DecodeError.{DecodeError}
 use Rattle.wasm_reading_laws.specs.ModulesRead.{HasFirstFault}
 use Rattle.wasm_reading_laws.proofs.Faults.{never_both}
 use Rattle.rw_types.specs.declared.modules.Module.{Module}
-use Rattle.rw_text.specs.Spells.{Spells}
-use Rattle.rw_text.proofs.Whole.{one_module, is_lone_main}
+use Rattle.rich_text.specs.Texts.{Spells}
+use Rattle.rich_text_laws.proofs.Whole as texts
 use Rattle.rich_typing.proofs.LoneModules.{module_never_both, lone_refused}
 use Rattle.rich_typing.specs.declared.notes.Note.{Note}
 use Rattle.rich_typing.specs.Derivations.{IsTyped}
-use Rattle.rich_typing.specs.Violations.{FirstViolation}
+use Rattle.rich_typing.specs.Violations.{Violation, FirstViolation, in_body, not_built}
 use Rattle.rw_program.specs.Programs.{Program}
 use Rattle.lowering_laws.proofs.Behaves.{lowered_ends}
 use Rattle.lowering_table.specs.declared.Pages.{Pages}
-use Rattle.lowering_table.specs.Modules.{ArePages}
+use Rattle.lowering_table.specs.Modules.{ArePages, low_module}
 use Rattle.lower.proofs.ShortContents.{low_has_short_contents}
 use Rattle.rw_io.specs.Files.{NamedFile, content_of}
-use Rattle.rw_types.specs.LoneMain.{IsLoneMain}
-use Rattle.words.specs.declared.SourceKind.{SourceKind}
-use Rattle.words.specs.Words.{Command, build, dump, Source, SpellsCommand}
+use Rattle.words.specs.Words.{Command, build, run, exec, show, dump, Source, SpellsCommand}
 use Rattle.words.specs.Found.{Finds}
 use Rattle.rwc_reports.specs.Answers.{statuses_of}
 use Rattle.rwc_reports.specs.Binaries.{ProgramLeads, encoded, too_long as section_too_long, decoded, malformed}
 use Rattle.rwc_reports.specs.Dumps.{dump_job}
-use Rattle.rwc_reports.specs.Jobs.{Job}
+use Rattle.rwc_reports.specs.Executions.{ProgramRunReports}
+use Rattle.rwc_reports.specs.Jobs.{Job, refusal_job}
 use Rattle.rwc_reports.specs.Laws.{StatusesOfCommands, TypedIsBuilt, ModuleIsDumped, FaultIsRefused, IsDumped, DumpedIsModule, ProgramsEnd, NoneTooLong, NoTypeTold}
 use Rattle.rwc_reports.specs.Reports.{CommandReports}
-use Rattle.rwc_reports.specs.Sources.{max_file_length, FileLoads, loaded, missing, too_long, TextReads, spelled, not_spelled, typed, violated, SourceChecks, SourcesCheck, FilesLead}
+use Rattle.rwc_reports.specs.Sources.{max_file_length, FileLoads, loaded, missing, too_long, spelled, faulty, typed, violated, SourceChecks, SourcesCheck, FilesLead}
 use Rattle.rwc_reports.specs.Steps.{Refused, goes_on, stops, IsOneOf}
-use Rattle.rwc_reports.proofs.Causes.{load_status, of_first, of_file, of_binary, job_status, apart}
-use Rattle.rwc_reports.proofs.LonePrograms.{leads_to_lone, one_checked, links}
-use Rattle.rwc_reports.proofs.OneReport.{one_load, one_tree, reports_found}
-use Rattle.rwc_reports.proofs.SomeReport.{are_pages}
+use Rattle.rwc_reports.proofs.Causes.{of_dumped_file, of_dumped_binary, job_status, apart}
+use Rattle.rwc_reports.proofs.LonePrograms.{leads_to_lone, one_checked, links, files_status}
+use Rattle.rwc_reports.proofs.OneAnswer.{one_load, one_tree}
+use Rattle.rwc_reports.proofs.OneReport.{reports_found}
+use Rattle.rwc_reports.proofs.Runs.{run_status}
+use Rattle.rwc_reports.proofs.SomeAnswer.{are_pages, run_pages}
 use Rattle.rwc_reports.proofs.Ways.{BuildComes, refused_files, refused_program, is_built, build_comes, DumpComes, refused_file, refused_binary, is_dumped, dump_comes}
-use Rattle.rwc_reports.proofs.Steps.{same_value, same_refused, not_both, value_of_one, first_refused}
+use Rattle.rwc_reports.proofs.Steps.{same_value, same_refused, not_both, value_of_one}
 
 pub statuses_of_commands : StatusesOfCommands
 statuses_of_commands words told job (command, found, reports) = (command, found, job_status command told job reports)
@@ -59,11 +64,11 @@ not_refused told file bytes refused there short load = not_both bytes refused (o
 
 text_passes : (bytes own : List ℕ) (source : Source) (m : Module) (notes : List (List Note)) (refused : Refused) → own ≡ bytes → Spells bytes m → IsTyped m notes → SourceChecks (source, own) (Err refused) → ⊥
 text_passes bytes own source m notes refused same spells derived (stops r (spelled n k is e) f) = not_both n r (sym e)
-text_passes bytes own source m notes refused same spells derived (stops r (not_spelled k none e) f) = none m (subst (λ (b : List ℕ). Spells b m) (sym same) spells)
+text_passes bytes own source m notes refused same spells derived (stops r (faulty found k first e) f) = texts.never_both own m found (subst (λ (b : List ℕ). Spells b m) (sym same) spells) first
 text_passes bytes own source m notes refused same spells derived (goes_on n text (typed others t e)) = not_both _ refused (sym e)
-text_passes bytes own source m notes refused same spells derived (goes_on n (not_spelled k none e) (violated v first f)) = not_both n _ e
+text_passes bytes own source m notes refused same spells derived (goes_on n (faulty found k fault e) (violated v first f)) = not_both n _ e
 text_passes bytes own source m notes refused same spells derived (goes_on n (spelled k is other e) (violated v first f)) =
-    let one : n ≡ m = same_value n k e ∙ one_module bytes k m (subst (λ (b : List ℕ). Spells b k) same other) spells in
+    let one : n ≡ m = same_value n k e ∙ texts.one_module bytes k m (subst (λ (b : List ℕ). Spells b k) same other) spells in
     module_never_both m notes v derived (subst (λ (x : Module). FirstViolation x v) one first)
 
 files_pass : (told : List NamedFile) (source : Source) (bytes : List ℕ) (m : Module) (notes : List (List Note)) (refused : Refused) → content_of told source.file ≡ Some bytes → length bytes ≤ max_file_length → Spells bytes m → IsTyped m notes → FilesLead told (source ∷ []) (Err refused) → ⊥
@@ -126,8 +131,8 @@ loaded_content told file bytes (missing none e) = absurd (not_both bytes _ e)
 loaded_content told file bytes (too_long own is long e) = absurd (not_both bytes _ e)
 
 dumped : (file : List ℕ) (told : List NamedFile) (job : Job) → DumpComes told file job → job.status ≡ 0 → IsDumped told file job
-dumped file told job (refused_file r load e) zero = absurd (apart r.status 0 (of_file told file r load).refusal (sym (ap (λ (j : Job). j.status) e) ∙ zero) refl)
-dumped file told job (refused_binary bytes r load decodes e) zero = absurd (apart r.status 0 (of_binary told file bytes r load decodes).refusal (sym (ap (λ (j : Job). j.status) e) ∙ zero) refl)
+dumped file told job (refused_file r load e) zero = absurd (apart r.status 0 (of_dumped_file told file r load).refusal (sym (ap (λ (j : Job). j.status) e) ∙ zero) refl)
+dumped file told job (refused_binary bytes r load decodes e) zero = absurd (apart r.status 0 (of_dumped_binary told file bytes r load decodes).refusal (sym (ap (λ (j : Job). j.status) e) ∙ zero) refl)
 dumped file told job (is_dumped bytes n load (decoded k spells f) e) zero =
     record { bytes = bytes; content = loaded_content told file bytes load; tree = n; spelled = subst (λ (x : WModule). SpellsModule bytes x) (sym (same_value n k f)) spells; is = e }
 dumped file told job (is_dumped bytes n load (malformed f first g) e) zero = absurd (not_both n _ g)
@@ -139,44 +144,55 @@ pub programs_end : ProgramsEnd
 programs_end told source program pages are leads = lowered_ends program pages (leads_to_lone told source program leads) are
 
 pub no_type_told : NoTypeTold
-no_type_told bytes m v spells first = let lone = lone_refused m v (is_lone_main bytes m spells) first in (lone.1, lone.2)
+no_type_told m v (in_body f at lone is place breaks) = let none = lone_refused m v lone (in_body f at lone is place breaks) in (none.1, none.2)
+no_type_told m v (not_built other place broken found expected) = (found, expected)
 
--- the files of a build are refused with 1 or 3
-pub files_status : (told : List NamedFile) (source : Source) (refused : Refused) → FilesLead told (source ∷ []) (Err refused) → (refused.status ≡ 1) ⊎ (refused.status ≡ 3)
-files_status told source refused (stops r load e) =
-    let first = first_refused (λ (s : Source). FileLoads told s.file) (source ∷ []) r load in
-    inr (ap (λ (q : Refused). q.status) (same_refused refused r e) ∙ load_status told first.at.file r first.is)
-files_status told source refused (goes_on all load (stops r check e)) =
-    let first = first_refused SourceChecks all r check in
-    inl (ap (λ (q : Refused). q.status) (same_refused refused r e) ∙ (of_first told 0 0 [] source all r load first first.is).1)
-files_status told source refused (goes_on all load (goes_on checked check link)) = absurd (links told source all checked refused (one_checked told source all checked load check) link)
+-- a status that is neither 10 nor 11
+abbrev NotLong : ℕ → Type 0
+NotLong status = (status ≢ 10) × (status ≢ 11)
 
-build_long : (words : List (List ℕ)) (lin unr : ℕ) (name : List ℕ) (source : Source) (told : List NamedFile) (job : Job) → SpellsCommand words (build lin unr name source) → BuildComes told lin unr name source job → (job.status ≢ 10) × (job.status ≢ 11)
-build_long words lin unr name source told job found (refused_files r files e) =
-    let same : job.status ≡ r.status = ap (λ (j : Job). j.status) e in
-    elim (files_status told source r files) [
-      | inl one ↦ (λ ten. omega (arith, same, one, ten), λ eleven. omega (arith, same, one, eleven))
-      | inr three ↦ (λ ten. omega (arith, same, three, ten), λ eleven. omega (arith, same, three, eleven))
-    ]
+not_long : (status n : ℕ) → status ≡ n → n < 10 → NotLong status
+not_long status n same less = (λ ten. omega (arith, same, less, ten), λ eleven. omega (arith, same, less, eleven))
+
+files_short : (told : List NamedFile) (source : Source) (refused : Refused) → FilesLead told (source ∷ []) (Err refused) → (job : Job) → job ≡ refusal_job refused → NotLong job.status
+files_short told source refused files job e =
+    let same : job.status ≡ refused.status = ap (λ (j : Job). j.status) e in
+    elim (files_status told source refused files) [ inl one ↦ not_long job.status 1 (same ∙ one) (lit< tt) | inr three ↦ not_long job.status 3 (same ∙ three) (lit< tt) ]
+
+build_long : (words : List (List ℕ)) (lin unr : ℕ) (name : List ℕ) (source : Source) (told : List NamedFile) (job : Job) → SpellsCommand words (build lin unr name source) → BuildComes told lin unr name source job → NotLong job.status
+build_long words lin unr name source told job found (refused_files r files e) = files_short told source r files job e
 build_long words lin unr name source told job found (refused_program program r leads refuses e) =
     absurd (no_long (record { lin = lin; unr = unr }) told source program r (are_pages lin unr name source words found) leads refuses)
-build_long words lin unr name source told job found (is_built program binary leads is e) = let zero : job.status ≡ 0 = ap (λ (j : Job). j.status) e in (λ ten. omega (arith, zero, ten), λ eleven. omega (arith, zero, eleven))
+build_long words lin unr name source told job found (is_built program binary leads is e) = not_long job.status 0 (ap (λ (j : Job). j.status) e) (lit< tt)
 
-none_long : (words : List (List ℕ)) (command : Option Command) (told : List NamedFile) (job : Job) → Finds (SpellsCommand words) command → CommandReports command told job → (job.status ≢ 10) × (job.status ≢ 11)
-none_long words None told job found is = let two : job.status ≡ 2 = ap (λ (j : Job). j.status) is in (λ e. omega (arith, two, e), λ e. omega (arith, two, e))
-none_long words (Some (build lin unr name source)) told job found reports = build_long words lin unr name source told job found (build_comes told lin unr name source job reports)
-none_long words (Some (dump file)) told job found reports = of_status (job_status (Some (dump file)) told job reports)
+run_long : (words : List (List ℕ)) (lin unr steps : ℕ) (source : Source) (told : List NamedFile) (job : Job) → SpellsCommand words (run lin unr steps source) → ProgramRunReports (record { lin = lin; unr = unr }) steps (source ∷ []) told job → NotLong job.status
+run_long words lin unr steps source told job found (stops r files e) = files_short told source r files job e
+run_long words lin unr steps source told job found (goes_on program leads (stops r refuses e)) =
+    absurd (no_long (record { lin = lin; unr = unr }) told source program r (run_pages lin unr steps source words found) leads refuses)
+run_long words lin unr steps source told job found (goes_on program leads (goes_on binary is runs)) = of_run (run_status (wasm (low_module program (record { lin = lin; unr = unr }))) steps job runs)
   where
-    of_status : IsOneOf (statuses_of (Some (dump file))) job.status → (job.status ≢ 10) × (job.status ≢ 11)
-    of_status (inl e) = (λ ten. omega (arith, e, ten), λ eleven. omega (arith, e, eleven))
-    of_status (inr (inl e)) = (λ ten. omega (arith, e, ten), λ eleven. omega (arith, e, eleven))
-    of_status (inr (inr (inl e))) = (λ ten. omega (arith, e, ten), λ eleven. omega (arith, e, eleven))
-    of_status (inr (inr (inr other))) = absurd other
+    of_run : IsOneOf (0 ∷ 6 ∷ 7 ∷ []) job.status → NotLong job.status
+    of_run (inl e) = not_long job.status 0 e (lit< tt)
+    of_run (inr (inl e)) = not_long job.status 6 e (lit< tt)
+    of_run (inr (inr (inl e))) = not_long job.status 7 e (lit< tt)
+    of_run (inr (inr (inr none))) = absurd none
+
+all_short : (statuses : List ℕ) (status : ℕ) → list_all (λ n. nat_lt n 10) statuses ≡ true → IsOneOf statuses status → NotLong status
+all_short [] status all none = absurd none
+all_short (n ∷ ns) status all one = by_first (nat_lt n 10) refl all one
+  where
+    by_first : (b : Bool) → nat_lt n 10 ≡ b → (b && list_all (λ k. nat_lt k 10) ns) ≡ true → IsOneOf (n ∷ ns) status → NotLong status
+    by_first true is more (inl e) = not_long status n e (leb-true (suc n) 10 is)
+    by_first true is more (inr later) = all_short ns status more later
+    by_first false is more one = absurd (cc)
+
+none_long : (words : List (List ℕ)) (command : Option Command) (told : List NamedFile) (job : Job) → Finds (SpellsCommand words) command → CommandReports command told job → NotLong job.status
+none_long words None told job found is = not_long job.status 2 (ap (λ (j : Job). j.status) is) (lit< tt)
+none_long words (Some (build lin unr name source)) told job found reports = build_long words lin unr name source told job found (build_comes told lin unr name source job reports)
+none_long words (Some (run lin unr steps source)) told job found reports = run_long words lin unr steps source told job found reports
+none_long words (Some (exec steps file)) told job found reports = all_short (statuses_of (Some (exec steps file))) job.status refl (job_status (Some (exec steps file)) told job reports)
+none_long words (Some (show source)) told job found reports = all_short (statuses_of (Some (show source))) job.status refl (job_status (Some (show source)) told job reports)
+none_long words (Some (dump file)) told job found reports = all_short (statuses_of (Some (dump file))) job.status refl (job_status (Some (dump file)) told job reports)
 
 pub none_too_long : NoneTooLong
 none_too_long words told job (command, found, reports) = none_long words command told job found reports
-
--- what a text of today spells is one function
-pub text_lone : (kind : SourceKind) (file bytes : List ℕ) (m : Module) → TextReads kind file bytes (Ok m) → IsLoneMain m
-text_lone kind file bytes m (spelled n k is e) = subst IsLoneMain (sym (same_value m n e)) (is_lone_main bytes n is)
-text_lone kind file bytes m (not_spelled k none e) = absurd (not_both m _ e)

@@ -33,11 +33,10 @@ use Rattle.rwc_reports.specs.Runs.{RunReports}
 use Rattle.rwc_reports.specs.Sources.{FileLoads, FilesLead}
 use Rattle.rwc_reports.specs.Steps.{Refused, Onward, Then, goes_on, stops, IsOneOf}
 use Rattle.rwc_reports.proofs.Causes.{load_status, decode_status, encode_status}
-use Rattle.rwc_reports.proofs.CommandLaws.{files_status}
-use Rattle.rwc_reports.proofs.LonePrograms.{leads_to_lone}
-use Rattle.rwc_reports.proofs.OneReport.{one_load, one_decoding, one_program, one_binary}
+use Rattle.rwc_reports.proofs.LonePrograms.{leads_to_lone, files_status}
+use Rattle.rwc_reports.proofs.OneAnswer.{one_load, one_decoding, one_program, one_binary}
 use Rattle.rwc_reports.proofs.Runs.{one_run, run_status, some_run, wasm_stays}
-use Rattle.rwc_reports.proofs.SomeReport.{some_load, load_bytes, some_decoding, some_program, some_binary}
+use Rattle.rwc_reports.proofs.SomeAnswer.{some_load, load_bytes, some_decoding, some_program, some_binary}
 use Rattle.rwc_reports.proofs.Starting.{start_is_called}
 use Rattle.rwc_reports.proofs.Steps.{same_value, same_refused, not_both, one_then, some_then}
 
@@ -167,12 +166,15 @@ execution_status told file steps job (goes_on m leads run) = of_run (run_status 
     of_run (inr (inr (inl e))) = inr (inr (inr (inl e)))
     of_run (inr (inr (inr none))) = absurd none
 
+module _ (steps : ℕ) (file : List ℕ) where
+  pub some_execution_job : (told : List NamedFile) → AreOfBytes told → (job : Job) × ExecutionReports steps file told job
+  some_execution_job told all = some_then refusal_job (ExecutableLeads told file) (λ m. RunReports (wasm m) steps) (some_executable told file all) (λ m is. some_run (wasm m) (never_stuck m (executable_can told file m is)) steps)
+
+  pub one_execution_job : (told : List NamedFile) (a b : Job) → ExecutionReports steps file told a → ExecutionReports steps file told b → a ≡ b
+  one_execution_job told a b = one_then refusal_job (ExecutableLeads told file) (λ m. RunReports (wasm m) steps) (one_executable told file) (λ m is. one_run (wasm m) (wasm_stays m) steps) a b
+
 pub one_execution : OneExecution
-one_execution steps file = record {
-  some = λ told all. some_then refusal_job (ExecutableLeads told file) (λ m. RunReports (wasm m) steps) (some_executable told file all) (λ m is. some_run (wasm m) (never_stuck m (executable_can told file m is)) steps);
-  one = λ told a b. one_then refusal_job (ExecutableLeads told file) (λ m. RunReports (wasm m) steps) (one_executable told file) (λ m is. one_run (wasm m) (wasm_stays m) steps) a b;
-  status = λ told job. execution_status told file steps job;
-}
+one_execution steps file = record { some = some_execution_job steps file; one = one_execution_job steps file; status = λ told job. execution_status told file steps job }
 
 module _ (pages : Pages) (are : ArePages pages) where
   lowered_can : (told : List NamedFile) (source : Source) (program : Program) → FilesLead told (source ∷ []) (Ok program) → CanRun (low_module program pages)
@@ -209,16 +211,19 @@ module _ (pages : Pages) (are : ArePages pages) where
       elim (files_status told source r leads) [ inl one ↦ inr (inl (same ∙ one)) | inr three ↦ inr (inr (inl (same ∙ three))) ]
   program_run_status told source steps job (goes_on program leads run) = run_of_program_status program steps job run
 
-pub one_program_run : OneProgramRun
-one_program_run pages steps source are = record {
-  some = λ told all. some_then refusal_job (FilesLead told (source ∷ [])) (λ program. Then refusal_job (ProgramLeads pages program) (λ binary. RunReports (wasm (low_module program pages)) steps)) (some_program told source)
-      (λ program is. some_then refusal_job (ProgramLeads pages program) (λ binary. RunReports (wasm (low_module program pages)) steps) (some_binary pages program are (leads_to_lone told source program is))
-      (λ binary also. some_run (wasm (low_module program pages)) (never_stuck (low_module program pages) (lowered_can pages are told source program is)) steps));
-  one = λ told a b. one_then refusal_job (FilesLead told (source ∷ [])) (λ program. Then refusal_job (ProgramLeads pages program) (λ binary. RunReports (wasm (low_module program pages)) steps)) (one_program told (source ∷ []))
+module _ (pages : Pages) (steps : ℕ) where
+  pub one_program_job : (sources : List Source) (told : List NamedFile) (a b : Job) → ProgramRunReports pages steps sources told a → ProgramRunReports pages steps sources told b → a ≡ b
+  one_program_job sources told a b = one_then refusal_job (FilesLead told sources) (λ program. Then refusal_job (ProgramLeads pages program) (λ binary. RunReports (wasm (low_module program pages)) steps)) (one_program told sources)
       (λ program is. one_then refusal_job (ProgramLeads pages program) (λ binary. RunReports (wasm (low_module program pages)) steps) (one_binary pages program)
-      (λ binary also. one_run (wasm (low_module program pages)) (wasm_stays (low_module program pages)) steps)) a b;
-  status = λ told job. program_run_status pages are told source steps job;
-}
+      (λ binary also. one_run (wasm (low_module program pages)) (wasm_stays (low_module program pages)) steps)) a b
+
+  pub some_program_job : (source : Source) → ArePages pages → (told : List NamedFile) → AreOfBytes told → (job : Job) × ProgramRunReports pages steps (source ∷ []) told job
+  some_program_job source are told all = some_then refusal_job (FilesLead told (source ∷ [])) (λ program. Then refusal_job (ProgramLeads pages program) (λ binary. RunReports (wasm (low_module program pages)) steps)) (some_program told source)
+      (λ program is. some_then refusal_job (ProgramLeads pages program) (λ binary. RunReports (wasm (low_module program pages)) steps) (some_binary pages program are (leads_to_lone told source program is))
+      (λ binary also. some_run (wasm (low_module program pages)) (never_stuck (low_module program pages) (lowered_can pages are told source program is)) steps))
+
+pub one_program_run : OneProgramRun
+one_program_run pages steps source are = record { some = some_program_job pages steps source are; one = one_program_job pages steps (source ∷ []); status = λ told job. program_run_status pages are told source steps job }
 
 pub binaries_run : BinariesRun
 binaries_run told source pages program binary are leads encodes =

@@ -1,5 +1,5 @@
 -- What told files lead to is a program of one function, whose lowered module has short sections.
-use Rattle.std.proofs.Common.{◌≡◌, ℕ, List, [], ◌∷◌, map, refl, ap, sym, ◌∙◌, subst, Ok, Err, None, Some}
+use Rattle.std.proofs.Common.{◌≡◌, ◌⊎◌, inl, inr, ℕ, List, [], ◌∷◌, map, refl, ap, sym, ◌∙◌, subst, Ok, Err, None, Some}
 use Rattle.std.specs.declared.option.Option.{Option}
 use Rattle.rw_types.specs.declared.instrs.Instr.{Instr}
 use Rattle.rw_types.specs.declared.modules.Module.{Module}
@@ -14,10 +14,11 @@ use Rattle.rw_program.specs.Programs.{Program}
 use Rattle.rw_io.specs.Files.{NamedFile}
 use Rattle.words.specs.Words.{Source}
 use Rattle.rwc_reports.specs.Laws.{LeadsToLone}
-use Rattle.rwc_reports.specs.Sources.{FileLoads, ModuleChecks, typed, violated, SourceChecks, ModulesLink, linked, no_main, SourcesLoad, SourcesCheck, SourcesLink}
+use Rattle.rwc_reports.specs.Sources.{FileLoads, ModuleChecks, typed, violated, SourceChecks, ModulesLink, linked, no_main, SourcesLoad, SourcesCheck, SourcesLink, FilesLead}
 use Rattle.rwc_reports.specs.Steps.{Refused, goes_on, stops}
-use Rattle.rwc_reports.proofs.OneReport.{same_some}
-use Rattle.rwc_reports.proofs.Steps.{same_value, not_both, value_of_one}
+use Rattle.rwc_reports.proofs.Causes.{load_status, text_status, check_status}
+use Rattle.rwc_reports.proofs.OneAnswer.{same_some}
+use Rattle.rwc_reports.proofs.Steps.{same_value, same_refused, not_both, value_of_one, first_refused}
 
 record OneBody (body : List Instr) (notes : List (List Note)) : Type 0 where
   own : List Note
@@ -100,3 +101,17 @@ links told source all checked refused one link = never_refused one.value refused
     never_refused : (value : TypedModule) (refused : Refused) → Typed value → ModulesLink (value ∷ []) (Err refused) → ⊥
     never_refused value refused t (linked file p is some e) = not_both p refused (sym e)
     never_refused value refused t (no_main none e) = has_program t.source t.notes t.derived (sym (ap program_of t.is) ∙ none)
+
+source_status : (given : Source × List ℕ) (refused : Refused) → SourceChecks given (Err refused) → refused.status ≡ 1
+source_status given refused (stops r text e) = ap (λ (q : Refused). q.status) (same_refused refused r e) ∙ text_status given.0.kind given.0.file given.1 r text
+source_status given refused (goes_on m text check) = check_status given.0.file m refused check
+
+-- the files of a program are refused with 1 or 3
+pub files_status : (told : List NamedFile) (source : Source) (refused : Refused) → FilesLead told (source ∷ []) (Err refused) → (refused.status ≡ 1) ⊎ (refused.status ≡ 3)
+files_status told source refused (stops r load e) =
+    let first = first_refused (λ (s : Source). FileLoads told s.file) (source ∷ []) r load in
+    inr (ap (λ (q : Refused). q.status) (same_refused refused r e) ∙ load_status told first.at.file r first.is)
+files_status told source refused (goes_on all load (stops r check e)) =
+    let first = first_refused SourceChecks all r check in
+    inl (ap (λ (q : Refused). q.status) (same_refused refused r e) ∙ source_status first.at r first.is)
+files_status told source refused (goes_on all load (goes_on checked check link)) = absurd (links told source all checked refused (one_checked told source all checked load check) link)

@@ -16,7 +16,7 @@ use Rattle.wasm_execution.specs.Steps.{step}
 use Rattle.rwc_reports.specs.Jobs.{Job}
 use Rattle.rwc_reports.specs.Runs.{RunReports, ended, spent, run_job, after_line, end_text, end_status}
 use Rattle.rwc_reports.specs.Steps.{IsOneOf}
-use Rattle.rwc_reports.proofs.OneReport.{compare}
+use Rattle.rwc_reports.proofs.OneAnswer.{compare}
 
 -- what has ended stays
 abbrev pub Stays : (ℕ → Seen) → Type 0

@@ -6,7 +6,7 @@ use Rattle.std.specs.Io.KnownBytes.{append_known}
 use Rattle.rw_io.specs.Counts.{Rose}
 use Rattle.rw_io.specs.Files.{NamedFile}
 use Rattle.rw_io.specs.States.{ShelfState, SinkState}
-use Rattle.words.specs.Words.{Command, build, dump, files_of, SpellsCommand}
+use Rattle.words.specs.Words.{Command, build, run, exec, show, dump, files_of, SpellsCommand}
 use Rattle.words.specs.Found.{Finds}
 use Rattle.rwc_reports.specs.Acts.{Act, create, append, put, outside_of}
 use Rattle.rwc_reports.specs.Endings.{KeepsTo, Tells}
@@ -53,6 +53,9 @@ pub record CallEnds (words : List (List ℕ)) (told : List NamedFile) (shelf she
 abbrev pub statuses_of : Option Command → List ℕ
 statuses_of None = 2 ∷ []
 statuses_of (Some (build lin unr name source)) = 0 ∷ 1 ∷ 3 ∷ 10 ∷ 11 ∷ []
+statuses_of (Some (run lin unr steps source)) = 0 ∷ 1 ∷ 3 ∷ 6 ∷ 7 ∷ 10 ∷ 11 ∷ []
+statuses_of (Some (exec steps file)) = 0 ∷ 3 ∷ 6 ∷ 7 ∷ 9 ∷ []
+statuses_of (Some (show source)) = 0 ∷ 1 ∷ 3 ∷ []
 statuses_of (Some (dump file)) = 0 ∷ 3 ∷ 9 ∷ []
 
 -- the statuses of a call: those of its job, 4 where it loads files, 5 where it writes, and 8
@@ -73,6 +76,7 @@ pub record ReadFails (words : List (List ℕ)) (shelf shelf' : ShelfState) (err 
   pub rose : Rose shelf.load_faults shelf'.load_faults
   pub tells : Tells (read_fault_line file) 4 err err' 4
 
--- the statuses of a refusal: of a text or a module, of a file, of a binary, of a link, of a size
+-- the statuses of a refusal: of a text or a module, of a file, of a binary, of a link, of a size; and of a run that came to no
+-- value: it trapped, or its steps were spent
 abbrev pub IsRefusal : ℕ → Type 0
-IsRefusal status = (status ≡ 1) ⊎ ((status ≡ 3) ⊎ ((status ≡ 9) ⊎ ((status ≡ 10) ⊎ (status ≡ 11))))
+IsRefusal status = IsOneOf (1 ∷ 3 ∷ 6 ∷ 7 ∷ 9 ∷ 10 ∷ 11 ∷ []) status

@@ -7,13 +7,15 @@ use Rattle.std.specs.declared.result.Result.{Result}
 use Rattle.std.specs.declared.result.Result.TheVariants.{Ok}
 use Rattle.rw_io.specs.Files.{NamedFile}
 use Rattle.lowering_table.specs.declared.Pages.{Pages}
-use Rattle.words.specs.Words.{Command, build, dump, Source, SpellsCommand}
+use Rattle.words.specs.Words.{Command, build, run, exec, show, dump, Source, SpellsCommand}
 use Rattle.words.specs.Found.{Finds}
 use Rattle.rwc_reports.specs.Acts.{create, append, put}
 use Rattle.rwc_reports.specs.Binaries.{ProgramLeads, BinaryDecodes}
 use Rattle.rwc_reports.specs.Dumps.{module_lines}
+use Rattle.rwc_reports.specs.Executions.{ExecutionReports, ProgramRunReports}
 use Rattle.rwc_reports.specs.Jobs.{Job, refusal_job, lines_job, JobOf}
 use Rattle.rwc_reports.specs.Lines.{words_line, wrote_line}
+use Rattle.rwc_reports.specs.Shows.{ShowReports}
 use Rattle.rwc_reports.specs.Sources.{FilesLead, FileLoads}
 use Rattle.rwc_reports.specs.Steps.{Refused, Onward}
 
@@ -42,6 +44,9 @@ abbrev pub CommandReports : Option Command → List NamedFile → Job → Type 0
 CommandReports None told job = job ≡ words_job
 CommandReports (Some (build lin unr name source)) told job =
     JobOf (BinaryLeads told (source ∷ []) (record { lin = lin; unr = unr })) (λ binary j. j ≡ build_job name binary) job
+CommandReports (Some (run lin unr steps source)) told job = ProgramRunReports (record { lin = lin; unr = unr }) steps (source ∷ []) told job
+CommandReports (Some (exec steps file)) told job = ExecutionReports steps file told job
+CommandReports (Some (show source)) told job = ShowReports source told job
 CommandReports (Some (dump file)) told job =
     JobOf (LinesLead told file) (λ lines j. j ≡ lines_job lines 0) job
 
