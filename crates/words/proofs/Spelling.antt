@@ -82,12 +82,6 @@ pub words_are : (rest : List (List ℕ)) (file : List ℕ) → HaveFlags [] (set
 words_are rest file none after =
     sym (joined rest) ∙ ap (λ (settings : List Setting). words_of_settings settings ++ files_after rest) (no_settings (settings_of rest) none) ∙ after
 
-pub gives_show : (rest : List (List ℕ)) (source : Source) → rest ≡ source.file ∷ [] → HasFiles (show source) → Gives rest (show source)
-gives_show rest source are files = subst (λ (words : List (List ℕ)). Gives words (show source)) (sym are) (record { flags = refl; given = tt; after = refl; files = files })
-
-pub gives_dump : (rest : List (List ℕ)) (file : List ℕ) → rest ≡ file ∷ [] → HasFiles (dump file) → Gives rest (dump file)
-gives_dump rest file are files = subst (λ (words : List (List ℕ)). Gives words (dump file)) (sym are) (record { flags = refl; given = tt; after = refl; files = files })
-
 -- where nothing gives a build, `build` and these words spell nothing; and so on
 pub no_build : (rest : List (List ℕ)) → ((lin unr : ℕ) (name : List ℕ) (source : Source) → Gives rest (build lin unr name source) → ⊥) → (command : Command) → SpellsCommand (codes "build" ∷ rest) command → ⊥
 no_build rest none (build lin unr name source) s = none lin unr name source (spelled (codes "build") rest (build lin unr name source) s)
