@@ -55,6 +55,25 @@ append_nothing (Some xs) = ap (λ (b : List ℕ). Some b) (sym (append-nil xs))
 pub tells_nothing : (state : SinkState) (status result : ℕ) → result ≡ status → Tells [] status state state result
 tells_nothing state status result same = record { count = 0; put = append_nothing state.bytes; same = inl same; changed = inl same; whole = inl (lit≤ tt) }
 
+-- the steps to a job were stopped before anything was done
+module _ {T A : Type 0} (view : T → A) (Leads : List NamedFile → Result A Refused → Type 0) (Jobs : List NamedFile → Job → Type 0) (refuses : (told : List NamedFile) (refused : Refused) → Leads told (Err refused) → Jobs told (refusal_job refused))
+    (files : List (List ℕ)) (statuses file : List ℕ) (shelf mid : ShelfState) where
+  kept_outside : (out : SinkState) → mid.holding ≡ shelf.holding → outside_of mid out ≡ outside_of shelf out
+  kept_outside out same = ap (λ (h : Holding). let o : Outside = record { holding = h; out = out.bytes } in o) same
+
+  pub stopped_as : (listed : List ℕ) (out : SinkState) (stop : Stop) → LoadsTo view Leads listed file shelf mid (Err stop) → IsOneOf files file → ((status : ℕ) → IsOneOf listed status → IsOneOf statuses status) →
+      KeepsJob Jobs files statuses shelf mid out out (Err stop)
+  stopped_as listed out (IsRefused status line) l of also = record {
+    keeps = λ told e. carries_out (refusal_job (record { status = status; line = string_bytes line })) (refuses told _ (l.leads told e)) (record { done = []; outside = kept_outside out l.same; ends = whole refl refl refl });
+    cause = (also status l.cause, kept_outside out l.same);
+  }
+  stopped_as listed out (Unread line) l of also = record {
+    keeps = λ told e. unread file of (kept_outside out l.same) refl l.cause.0;
+    cause = (file, of, l.cause.0, l.cause.1, kept_outside out l.same);
+  }
+  stopped_as listed out (Unwritten line) l of also = absurd l.cause
+  stopped_as listed out Memory l of also = record { keeps = λ told e. unbegun (kept_outside out l.same) refl refl; cause = tt }
+
 module _ {T A : Type 0} (view : T → A) (Leads : List NamedFile → Result A Refused → Type 0) (Next : A → Job → Type 0) (files : List (List ℕ)) (statuses file : List ℕ) (shelf mid : ShelfState) where
   abbrev Jobs : List NamedFile → Job → Type 0
   Jobs told job = JobOf (Leads told) Next job
@@ -65,16 +84,7 @@ module _ {T A : Type 0} (view : T → A) (Leads : List NamedFile → Result A Re
   -- the steps to a job were stopped before anything was done
   pub stopped : (listed : List ℕ) (out : SinkState) (stop : Stop) → LoadsTo view Leads listed file shelf mid (Err stop) → IsOneOf files file → ((status : ℕ) → IsOneOf listed status → IsOneOf statuses status) →
       KeepsJob Jobs files statuses shelf mid out out (Err stop)
-  stopped listed out (IsRefused status line) l of also = record {
-    keeps = λ told e. carries_out (refusal_job (record { status = status; line = string_bytes line })) (stops _ (l.leads told e) refl) (record { done = []; outside = same_outside out l.same; ends = whole refl refl refl });
-    cause = (also status l.cause, same_outside out l.same);
-  }
-  stopped listed out (Unread line) l of also = record {
-    keeps = λ told e. unread file of (same_outside out l.same) refl l.cause.0;
-    cause = (file, of, l.cause.0, l.cause.1, same_outside out l.same);
-  }
-  stopped listed out (Unwritten line) l of also = absurd l.cause
-  stopped listed out Memory l of also = record { keeps = λ told e. unbegun (same_outside out l.same) refl refl; cause = tt }
+  stopped = stopped_as view Leads Jobs (λ told refused l. stops refused l refl) files statuses file shelf mid
 
   -- a job came to one of these ends
   abbrev Comes : Done → ShelfState → Type 0

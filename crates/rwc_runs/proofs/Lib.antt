@@ -2,3 +2,4 @@ pub mod Fronts
 pub mod Puts
 pub mod Jobs
 pub mod Executing
+pub mod Kept
