@@ -1,3 +1,3 @@
-pub mod Lines
+pub mod FirstLines
 pub mod Putting
-pub mod Shown
+pub mod Showing

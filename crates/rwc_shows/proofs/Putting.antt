@@ -1,5 +1,6 @@
 -- Lines that are put one after another: those that were put, and those that are left.
-use Rattle.std.proofs.Common.{◌≡◌, ℕ, List, [], ◌∷◌, ◌++◌, map, take, drop, refl, ap, sym, ◌∙◌, append_assoc}
+use Rattle.std.proofs.Common.{◌≡◌, ◌==◌, ℕ, true, List, [], ◌∷◌, ◌++◌, length, map, take, drop, refl, ap, sym, ◌∙◌, append_assoc, arith}
+use Rattle.std.proofs.lemmas.Bool.Decides.{nat_tests}
 use Rattle.std.proofs.lemmas.List.{append-nil, map-append}
 use Rattle.rw_io.specs.States.{ShelfState, SinkState}
 use Rattle.rwc_acts.specs.declared.ending.Stop.{Stop}
@@ -54,3 +55,7 @@ all_put text rest start end shelf none p = record {
       ∙ ap (λ (lines : List (List ℕ)). after_acts (map put lines) (outside_of shelf start)) (sym (p.split ∙ ap (λ (left : List ℕ). p.before ++ lines_of left) none ∙ append-nil p.before));
   ends = whole refl refl refl;
 }
+
+pub is_empty : (rest : List ℕ) → (length rest == 0) ≡ true → rest ≡ []
+is_empty [] e = refl
+is_empty (b ∷ bs) e = absurd (grind (arith, nat_tests))

@@ -10,7 +10,7 @@ use crate::files::{only_name, only_source};
 use crate::options::{files, have_flags, name_for, number_for};
 use crate::{Build, Command, Dump, Exec, Run, Show};
 
-/// The command that words of the plain form spell.
+/// The command that words of the plain form spell. `None` where they are not of it; this project's own.
 pub fn plain_command<'a>(words: &'a [String]) -> Option<Command<'a>>
     ensures command { Finds (SpellsCommand (map string_bytes words.now)) (option_map spelled_command result) }
     ensures ranges { IfSome result (λ command. InRanges (spelled_command command)) }

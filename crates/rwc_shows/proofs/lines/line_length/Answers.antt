@@ -1,6 +1,6 @@
 use Rattle.std.proofs.Common.{ℕ, sym, subst}
 use Rattle.rwc_shows.specs.Lines.{FirstLine}
-use Rattle.rwc_shows.proofs.Lines.{first_line, found_length, missed_length}
+use Rattle.rwc_shows.proofs.FirstLines.{first_line, found_length, missed_length}
 use Rattle.rwc_shows.proofs.lines.line_length.Goals as goal
 
 pub returns-in-Some : goal.returns-in-Some

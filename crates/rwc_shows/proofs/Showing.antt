@@ -11,7 +11,10 @@ use Rattle.rich_text_writing_laws.proofs.Writing.{spelled_is_writable}
 use Rattle.words.specs.Words.{Source}
 use Rattle.rwc_acts.specs.declared.ending.Done.{Done}
 use Rattle.rwc_acts.specs.declared.ending.Stop.{Stop}
+use Rattle.rwc_acts.specs.declared.ending.Stop.TheVariants.{Refused as IsRefused, Unread, Unwritten, Memory}
 use Rattle.rwc_acts.specs.Kept.{KeepsJob}
+use Rattle.rwc_acts.specs.Stops.{IsStep}
+use Rattle.rwc_reports.proofs.Causes.{text_status}
 use Rattle.rwc_reports.proofs.Steps.{same_value, same_refused, not_both}
 use Rattle.rwc_reports.specs.Acts.{Outside}
 use Rattle.rwc_reports.specs.Endings.{KeepsTo, carries_out, unread, unbegun}
@@ -19,7 +22,7 @@ use Rattle.rwc_reports.specs.Jobs.{Job, JobOf, refusal_job, lines_job}
 use Rattle.rwc_reports.specs.Shows.{lines_of, shown_lines, ShowReports}
 use Rattle.rwc_reports.specs.Sources.{TextReads, spelled, faulty}
 use Rattle.rwc_reports.specs.Steps.{Refused, goes_on, stops}
-use Rattle.rwc_shows.specs.Shown.{LinesLead, TextShows}
+use Rattle.rwc_shows.specs.Shown.{lines_in, LinesLead, TextShows}
 
 -- the text that is written is the canonical one
 pub text_shows : (source : Source) (bytes text : List ℕ) (m : Module) → TextReads source.kind source.file bytes (Ok m) → text ≡ module_text m → TextShows source bytes (Ok (lines_of text))
@@ -28,8 +31,16 @@ text_shows source bytes text m (spelled n kind spells e) is =
     (ap (λ (t : List ℕ). let r : Result (List (List ℕ)) Refused = Ok (lines_of t) in r) (is ∙ ap module_text (same_value m n e) ∙ written_is_canonical n (spelled_is_writable bytes n spells)))
 text_shows source bytes text m (faulty found kind first e) is = absurd (not_both m _ e)
 
-text_refused : (source : Source) (bytes : List ℕ) (refused : Refused) → TextReads source.kind source.file bytes (Err refused) → TextShows source bytes (Err refused)
-text_refused source bytes refused reads = stops refused reads refl
+-- a text that is refused shows nothing
+pub stop_shows : (source : Source) (bytes : List ℕ) (stop : Stop) → IsStep (λ (m : Module). m) (TextReads source.kind source.file bytes) (Err stop) → IsStep lines_in (TextShows source bytes) (Err stop)
+stop_shows source bytes (IsRefused status line) reads = stops _ reads refl
+stop_shows source bytes (Unread line) reads = absurd reads
+stop_shows source bytes (Unwritten line) reads = absurd reads
+stop_shows source bytes Memory reads = tt
+
+pub refused_text_status : (source : Source) (bytes : List ℕ) (refused : Refused) → TextShows source bytes (Err refused) → refused.status ≡ 1
+refused_text_status source bytes refused (goes_on m reads e) = absurd (not_both (shown_lines m) refused (sym e))
+refused_text_status source bytes refused (stops q reads e) = ap (λ (r : Refused). r.status) (same_refused refused q e) ∙ text_status source.kind source.file bytes q reads
 
 -- a job of the lines is one of showing the source
 pub shows : (source : Source) (told : List NamedFile) (job : Job) → JobOf (LinesLead told source) (λ lines j. j ≡ lines_job lines 0) job → ShowReports source told job

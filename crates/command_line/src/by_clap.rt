@@ -1,8 +1,6 @@
 // The command of the texts that `clap` reads. No clause rests on it.
-use crate::files::source_file;
-use crate::numbers::number;
-use crate::{Build, Command, Dump, Exec, Run, Show};
 use clap_words::{BuildTexts, ExecTexts, RunTexts, Texts};
+use words::{Build, Command, Dump, Exec, Run, Show, number, source_file};
 
 /// The command of these texts. `None` where a number of it is none, or its file is no source.
 pub fn command_of<'a>(texts: Texts<'a>) -> Option<Command<'a>> {
