@@ -18,11 +18,12 @@ use crate::build::build;
 use crate::dump::dump;
 use crate::exec::exec;
 use crate::run::run;
+use command_line::read_words;
 use rw_io::{Shelf, Sink, WriteStop, put_whole};
 use rwc_acts::{Done, Status, Stop};
 use rwc_shows::show;
 use std::alloc::Global;
-use words::{Command, read_words};
+use words::Command;
 
 /// The program's work: the words after the program's name, the files, standard output and standard error.
 /// A fault or a stall of `err` changes nothing in the status; want of memory there makes it 8.

@@ -1,8 +1,10 @@
 -- The steps to an execution, one after another: each was refused, or goes on.
-use Rattle.std.proofs.Common.{◌≡◌, ℕ, List, [], refl, string_bytes, Ok, Err}
+use Rattle.std.proofs.Common.{◌≡◌, ℕ, List, [], refl, sym, subst, string_bytes, Ok, Err}
 use Rattle.std.specs.declared.result.Result.{Result}
 use Rattle.wasm_ast.specs.declared.modules.WModule.{WModule}
 use Rattle.wasm_execution.specs.Behaviour.{wasm}
+use Rattle.wasm_grammar.specs.Profile.{IsInProfile}
+use Rattle.wasm_typing.specs.Modules.{IsValid}
 use Rattle.rw_io.specs.States.{ShelfState, SinkState}
 use Rattle.rwc_acts.specs.declared.ending.Done.{Done}
 use Rattle.rwc_acts.specs.declared.ending.Stop.{Stop}
@@ -10,7 +12,9 @@ use Rattle.rwc_acts.specs.declared.ending.Stop.TheVariants.{Refused as IsRefused
 use Rattle.rwc_acts.specs.Stops.{IfStop, IfStopped, IsStep}
 use Rattle.rwc_reports.specs.Acts.{Outside}
 use Rattle.rwc_reports.specs.Endings.{KeepsTo, carries_out, unread, unbegun, whole}
-use Rattle.rwc_reports.specs.Executables.{ModuleStarts}
+use Rattle.rwc_reports.specs.Binaries.{BinaryDecodes, decoded, malformed}
+use Rattle.rwc_reports.specs.Executables.{ModuleValidates, valid, invalid}
+use Rattle.rwc_reports.proofs.Steps.{same_value, not_both}
 use Rattle.rwc_reports.specs.Jobs.{Job, refusal_job, JobOf}
 use Rattle.rwc_reports.specs.Runs.{RunReports}
 use Rattle.rwc_reports.specs.Steps.{Refused, Onward, goes_on, stops}
@@ -69,3 +73,13 @@ module _ (steps : ℕ) (out : SinkState) where
       keeps = λ shelf. carries_out r.job (goes_on m leads r.reports) (r.carries_out shelf);
       cause = says_also (λ _ _. ⊥) _ (PutRose out out') result (λ status line none. absurd none) r.cause;
     }
+
+-- what bytes lead to is in the profile
+pub decoded_fits : (file bytes : List ℕ) (m : WModule) → BinaryDecodes file bytes (Ok m) → IsInProfile m
+decoded_fits file bytes m (decoded n is e) = subst IsInProfile (sym (same_value m n e)) is.profile
+decoded_fits file bytes m (malformed f first e) = absurd (not_both m _ e)
+
+-- what is valid is so itself
+pub validated : (file : List ℕ) (m n : WModule) → ModuleValidates file m (Ok n) → (n ≡ m) × IsValid n
+validated file m n (valid is e) = let same = same_value n m e in (same, subst IsValid (sym same) is)
+validated file m n (invalid v first e) = absurd (not_both n _ e)

@@ -1,5 +1,5 @@
 -- From what a machine's run answers and leaves to the job of its module's run, as far as that was carried out.
-use Rattle.std.proofs.Common.{◌≡◌, ◌∙◌, ◌⊎◌, ◌≤◌, ◌<◌, inl, inr, ℕ, ◌-◌, List, [], ◌∷◌, ◌++◌, length, map, take, refl, ap, sym, subst, arith, append_assoc, string_bytes, Ok, Err, None, Some}
+use Rattle.std.proofs.Common.{◌≡◌, ◌∙◌, ◌⊎◌, ◌≤◌, ◌<◌, inl, inr, ℕ, ◌+◌, ◌-◌, List, [], ◌∷◌, ◌++◌, length, map, take, refl, ap, sym, subst, arith, append_assoc, string_bytes, Ok, Err, None, Some}
 use Rattle.std.specs.Prelude.{codes}
 use Rattle.std.specs.Io.KnownBytes.{append_known}
 use Rattle.std.specs.Result.{IfOk}
@@ -51,6 +51,9 @@ acts_are printed last status = of_lines printed
     of_lines : (ns : List ℕ) → map put (map printed_line ns ++ (last ∷ [])) ≡ puts ns ++ (put last ∷ [])
     of_lines [] = refl
     of_lines (n ∷ ns) = ap (λ (acts : List Act). put_number n ∷ acts) (of_lines ns)
+
+from_zero : (k made : ℕ) → made ≡ 0 + k → made ≡ k
+from_zero k made e = omega (arith, e)
 
 going_or_over : (s : Stand) (e : End) → s ≡ Going → s ≡ Over e → ⊥
 going_or_over s e going over = let same : Going ≡ Over e = sym going ∙ over in cc
@@ -104,9 +107,9 @@ module _ (m : WModule) (first : Config) (is_valid : IsValid m) (profile : IsInPr
   -- the job of a run by how it stands
   outcome_reports : (steps : ℕ) (printed : List ℕ) (outcome : Outcome) (after : Progress) → Comes next_of ended_of steps_of steps start printed (stand_of outcome) after →
       RunReports (wasm m) steps (run_job printed (last_text outcome after.steps) (done_status (done_as outcome)))
-  outcome_reports steps printed (Ended (Value v)) after c = ended_reports steps after.steps printed (Value v) c.prints c.stands c.counted
-  outcome_reports steps printed (Ended (Trap t)) after c = ended_reports steps after.steps printed (Trap t) c.prints c.stands c.counted
-  outcome_reports steps printed SpentAll after c = spent_reports steps after.steps printed c.prints c.stands c.counted
+  outcome_reports steps printed (Ended (Value v)) after c = ended_reports steps after.steps printed (Value v) c.prints c.stands (from_zero (at steps).steps after.steps c.counted)
+  outcome_reports steps printed (Ended (Trap t)) after c = ended_reports steps after.steps printed (Trap t) c.prints c.stands (from_zero (at steps).steps after.steps c.counted)
+  outcome_reports steps printed SpentAll after c = spent_reports steps after.steps printed c.prints c.stands (from_zero (at steps).steps after.steps c.counted)
 
   some_job : (steps : ℕ) → (job : Job) × RunReports (wasm m) steps job
   some_job steps = some_run (wasm m) (valid_never_stuck m first is_valid profile starts) steps

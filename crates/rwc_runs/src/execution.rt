@@ -1,8 +1,10 @@
 // Bytes are decoded, and their module is validated, started and run.
 ghost use Rattle.std.specs.Prelude.{◌≡◌, Err};
 ghost use Rattle.wasm_ast.specs.declared.modules.WModule.{WModule};
+ghost use Rattle.wasm_grammar.specs.Profile.{IsInProfile};
 ghost use Rattle.wasm_module_checking.specs.Answers.{TellsFirst};
 ghost use Rattle.wasm_starts.specs.Answers.{TellsStart};
+ghost use Rattle.wasm_typing.specs.Modules.{IsValid};
 ghost use Rattle.rwc_reports.specs.Binaries.{BinaryDecodes};
 ghost use Rattle.rwc_reports.specs.Executables.{ModuleValidates, ModuleStarts, ModuleRuns};
 ghost use Rattle.rwc_reports.specs.Steps.{Onward};
@@ -43,6 +45,7 @@ fn execute_module<O: Sink>(
     steps: u64,
     out: &mut O,
 ) -> Result<Done, Stop>
+    requires { IsInProfile decoded }
     ensures { Executes (ModuleRuns file.now decoded) steps (O.state out.old) (O.state out.new) result }
 {
     match validate_module(alloc, file, decoded) {
@@ -59,6 +62,8 @@ fn run_module<O: Sink>(
     steps: u64,
     out: &mut O,
 ) -> Result<Done, Stop>
+    requires is_valid { IsValid valid.now }
+    requires profile { IsInProfile valid.now }
     ensures { Executes (ModuleStarts file.now valid.now) steps (O.state out.old) (O.state out.new) result }
 {
     match Machine::new(alloc, valid) {

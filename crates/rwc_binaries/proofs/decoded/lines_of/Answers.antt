@@ -24,5 +24,5 @@ returns-in-Ok-lines_of_module c =
     goes_on c.module.result.now (subst (λ (tree : WModule). BinaryDecodes c.args.file.now c.args.bytes.now (Ok tree)) (sym c.module.ensures.value) c.in-Ok.ensures)
     (ap (λ (lines : List (List ℕ)). let r : Result (List (List ℕ)) Refused = Ok lines in r) c.in-Ok-lines_of_module.ensures)
 
-pub returns-in-Err : goal.returns-in-Err
-returns-in-Err c = stopped c.args.file.now c.args.bytes.now c.in-Err.stop c.in-Err.ensures
+pub returns : goal.returns
+returns c = stopped c.args.file.now c.args.bytes.now c.in-Err.stop c.in-Err.ensures

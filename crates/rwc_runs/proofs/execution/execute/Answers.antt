@@ -1,6 +1,6 @@
 use Rattle.rwc_reports.specs.Binaries.{BinaryDecodes}
 use Rattle.rwc_reports.specs.Executables.{ModuleRuns}
-use Rattle.rwc_runs.proofs.Executing.{refused_first, behind}
+use Rattle.rwc_runs.proofs.Executing.{refused_first, behind, decoded_fits}
 use Rattle.rwc_runs.proofs.execution.execute.Goals as goal
 
 pub returns-in-Ok : goal.returns-in-Ok
@@ -12,3 +12,6 @@ pub returns-in-Err : goal.returns-in-Err
 returns-in-Err g c =
     let file = c.args.file.now in
     refused_first c.args.steps (g.O.Sink.state c.args.out.now) (BinaryDecodes file c.args.bytes.now) (ModuleRuns file) c.in-Err.stop c.in-Err.ensures
+
+pub execute_module-requires : goal.execute_module-requires
+execute_module-requires g c = decoded_fits c.args.file.now c.args.bytes.now c.in-Ok.decoded c.in-Ok.ensures

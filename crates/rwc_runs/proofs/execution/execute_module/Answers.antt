@@ -1,5 +1,7 @@
+use Rattle.std.proofs.Common.{sym, subst}
+use Rattle.wasm_grammar.specs.Profile.{IsInProfile}
 use Rattle.rwc_reports.specs.Executables.{ModuleValidates, ModuleStarts}
-use Rattle.rwc_runs.proofs.Executing.{refused_first, behind}
+use Rattle.rwc_runs.proofs.Executing.{refused_first, behind, validated}
 use Rattle.rwc_runs.proofs.execution.execute_module.Goals as goal
 
 pub returns-in-Ok : goal.returns-in-Ok
@@ -11,3 +13,9 @@ pub returns-in-Err : goal.returns-in-Err
 returns-in-Err g c =
     let file = c.args.file.now in
     refused_first c.args.steps (g.O.Sink.state c.args.out.now) (ModuleValidates file c.args.decoded) (ModuleStarts file) c.in-Err.stop c.in-Err.ensures
+
+pub run_module-requires-clause-is_valid : goal.run_module-requires-clause-is_valid
+run_module-requires-clause-is_valid g c = (validated c.args.file.now c.args.decoded c.in-Ok.valid c.in-Ok.ensures).1
+
+pub run_module-requires-clause-profile : goal.run_module-requires-clause-profile
+run_module-requires-clause-profile g c = subst IsInProfile (sym (validated c.args.file.now c.args.decoded c.in-Ok.valid c.in-Ok.ensures).0) c.requires

@@ -4,7 +4,11 @@ use Rattle.rwc_runs.proofs.Executing.{refused, runs}
 use Rattle.rwc_runs.proofs.execution.run_module.Goals as goal
 
 pub returns-in-Ok : goal.returns-in-Ok
-returns-in-Ok g c = ?
+returns-in-Ok g c =
+    let m = c.args.valid.now in
+    let begun = c.in-Ok.ensures.begins in
+    runs c.args.steps (g.O.Sink.state c.args.out.now) (g.O.Sink.state c.run_machine.new.out) c.run_machine.result (ModuleStarts c.args.file.now m) m (begins begun.first begun.starts refl)
+    (c.run_machine.ensures m begun c.requires.is_valid c.requires.profile)
 
 pub returns-in-Err : goal.returns-in-Err
 returns-in-Err g c =

@@ -23,7 +23,7 @@ returns-in-Ok g c = λ m begun is_valid profile.
     let mid = g.O.Sink.state c.run.new.out in
     let out' = g.O.Sink.state c.put_last.new.out in
     let outcome = c.in-Ok.outcome in
-    let after = c.run.new.machine in
+    let after = c.run.new.self in
     let r = subst (λ (p : Progress). Runs next_of ended_of steps_of c.args.steps p outcome after out mid) begun.is c.in-Ok.ensures.runs in
     whole_run m begun.first is_valid profile begun.starts c.args.steps out mid out' r.printed outcome after c.put_last.result r.comes r.put
     (λ shelf. subst (λ (n : ℕ). PutsLast (last_text outcome n) (outside_of shelf mid) (outside_of shelf out') c.put_last.result) c.steps.ensures (c.put_last.ensures.puts shelf))
@@ -34,5 +34,5 @@ pub returns-in-Err : goal.returns-in-Err
 returns-in-Err g c = λ m begun is_valid profile.
     let out = g.O.Sink.state c.args.out.now in
     let mid = g.O.Sink.state c.run.new.out in
-    let s = subst (λ (p : Progress). Stops next_of ended_of steps_of c.args.steps p c.in-Err.error c.run.new.machine out mid) begun.is c.in-Err.ensures.stops in
-    stopped_run m begun.first is_valid profile begun.starts c.args.steps out mid c.run.new.machine c.in-Err.error c.stopped.result s c.stopped.ensures
+    let s = subst (λ (p : Progress). Stops next_of ended_of steps_of c.args.steps p c.in-Err.error c.run.new.self out mid) begun.is c.in-Err.ensures.stops in
+    stopped_run m begun.first is_valid profile begun.starts c.args.steps out mid c.run.new.self c.in-Err.error c.stopped.result s c.stopped.ensures
