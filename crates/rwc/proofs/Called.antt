@@ -31,7 +31,7 @@ keeps_also Jobs Others files others before after status line also (unbegun same 
 ends_as : (files : List (List ℕ)) (statuses : List ℕ) (shelf shelf' : ShelfState) (out out' : SinkState) (result : Result Done Stop) (answered : ℕ) → EndsBy files statuses shelf shelf' out out' result → (answered ≡ status_of result) ⊎ (answered ≡ 8) →
     IsOneOf statuses answered ⊎ ((answered ≡ 4) ⊎ ((answered ≡ 5) ⊎ (answered ≡ 8)))
 ends_as files statuses shelf shelf' out out' result answered ends (inr eight) = inr (inr (inr eight))
-ends_as files statuses shelf shelf' out out' (Ok how) answered ends (inl e) = inl (subst (λ (s : ℕ). IsOneOf statuses s) (sym e) ends)
+ends_as files statuses shelf shelf' out out' (Ok how) answered ends (inl e) = inl (subst (λ (s : ℕ). IsOneOf statuses s) (sym e) ends.0)
 ends_as files statuses shelf shelf' out out' (Err (IsRefused status line)) answered ends (inl e) = inl (subst (λ (s : ℕ). IsOneOf statuses s) (sym e) ends.0)
 ends_as files statuses shelf shelf' out out' (Err (Unread line)) answered ends (inl e) = inr (inl e)
 ends_as files statuses shelf shelf' out out' (Err (Unwritten line)) answered ends (inl e) = inr (inr (inl e))
@@ -110,19 +110,19 @@ module _ (words : List (List ℕ)) (shelf shelf' : ShelfState) (out out' err err
   untouched (no_command stop none e says same) tells zero five six seven eight = same
   untouched (no_memory e same) tells zero five six seven eight = same
 
-  -- no command answers 6 or 7 so far
-  no_run : (n : ℕ) → (n ≡ 6) ⊎ (n ≡ 7) → (of : Option Command) → IsAnswer of answered → answered ≡ n → ⊥
-  no_run n which None (inl e) is = elim which [ inl f ↦ omega (arith, e, is, f) | inr f ↦ omega (arith, e, is, f) ]
-  no_run n which None (inr e) is = elim which [ inl f ↦ omega (arith, e, is, f) | inr f ↦ omega (arith, e, is, f) ]
-  no_run n which (Some spelled) (inr (inl e)) is = elim which [ inl f ↦ omega (arith, e, is, f) | inr f ↦ omega (arith, e, is, f) ]
-  no_run n which (Some spelled) (inr (inr (inl e))) is = elim which [ inl f ↦ omega (arith, e, is, f) | inr f ↦ omega (arith, e, is, f) ]
-  no_run n which (Some spelled) (inr (inr (inr e))) is = elim which [ inl f ↦ omega (arith, e, is, f) | inr f ↦ omega (arith, e, is, f) ]
-  no_run n which (Some spelled) (inl listed) is = elim which [ inl f ↦ listed_not spelled answered 6 listed (is ∙ f) refl | inr f ↦ listed_not spelled answered 7 listed (is ∙ f) refl ]
+  -- nothing was created
+  uncreated_same : (files : List (List ℕ)) (statuses : List ℕ) (how : Result Done Stop) → EndsBy files statuses shelf shelf' out out' how → (answered ≡ status_of how) ⊎ (answered ≡ 8) → answered ≢ 0 → answered ≢ 5 → answered ≢ 8 → shelf'.holding ≡ shelf.holding
+  uncreated_same files statuses how ends (inr eight) zero five not_eight = absurd (not_eight eight)
+  uncreated_same files statuses (Ok how) ends (inl e) zero five not_eight = ends.1 (λ none. zero (e ∙ none))
+  uncreated_same files statuses (Err (IsRefused status line)) ends (inl e) zero five not_eight = ap (λ (o : Outside). o.holding) ends.1
+  uncreated_same files statuses (Err (Unread line)) ends (inl e) zero five not_eight = ap (λ (o : Outside). o.holding) ends.4
+  uncreated_same files statuses (Err (Unwritten line)) ends (inl e) zero five not_eight = absurd (five e)
+  uncreated_same files statuses (Err Memory) ends (inl e) zero five not_eight = absurd (not_eight e)
 
   pub uncreated : Kept → Told → answered ≢ 0 → answered ≢ 5 → answered ≢ 8 → shelf'.holding ≡ shelf.holding
-  uncreated kept tells zero five eight =
-      let may = may_answer kept tells in
-      ap (λ (o : Outside). o.holding) (untouched kept tells zero five (λ six. no_run 6 (inl refl) may.0 may.2 six) (λ seven. no_run 7 (inr refl) may.0 may.2 seven) eight)
+  uncreated (command spelled plain kept) tells zero five eight = uncreated_same (files_of spelled) (statuses_of (Some spelled)) result kept.cause tells.same zero five eight
+  uncreated (no_command stop none e says same) tells zero five eight = ap (λ (o : Outside). o.holding) same
+  uncreated (no_memory e same) tells zero five eight = ap (λ (o : Outside). o.holding) same
 
   -- the words
   no_two : (of : Command) → IsOneOf (statuses_of (Some of)) answered ⊎ ((answered ≡ 4) ⊎ ((answered ≡ 5) ⊎ (answered ≡ 8))) → answered ≡ 2 → ⊥

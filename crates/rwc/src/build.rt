@@ -1,7 +1,7 @@
 // The command `build`: a binary is made of a file, created under a name, and a line says so.
 ghost use Rattle.std.specs.Prelude.{◌≡◌, IfOk};
 ghost use Rattle.rw_io.specs.States.{NoShelfCountFell};
-ghost use Rattle.words.specs.Commands.{spelled_build, HasPages};
+ghost use Rattle.words.specs.Commands.{spelled_build, InRanges};
 ghost use Rattle.words.specs.Words.{HasFiles};
 ghost use Rattle.rwc_reports.specs.Acts.{outside_of};
 ghost use Rattle.rwc_reports.specs.Endings.{CarriesOut, WriteRose};
@@ -25,7 +25,7 @@ pub fn build<S: Shelf, O: Sink>(
     out: &mut O,
 ) -> Result<Done, Stop>
     requires files { HasFiles (spelled_build words.now) }
-    requires pages { HasPages (spelled_build words.now) }
+    requires ranges { InRanges (spelled_build words.now) }
     ensures { KeepsCommand (spelled_build words.now) (S.state shelf.old) (S.state shelf.new) (O.state out.old) (O.state out.new) result }
 {
     let pages = Pages {

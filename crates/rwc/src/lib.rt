@@ -4,6 +4,8 @@
 
 mod build;
 mod dump;
+mod exec;
+mod run;
 mod top;
 
 pub use rwc_acts::Status;

@@ -1,7 +1,7 @@
 // The top call: all that the program does.
 ghost use Rattle.std.specs.Prelude.{◌≡◌, ◌≢◌, ◌⊎◌, ℕ, List, [], ◌∷◌, Some, string_bytes, map};
 ghost use Rattle.rw_io.specs.Files.{NamedFile};
-ghost use Rattle.words.specs.Commands.{spelled_command, HasPages};
+ghost use Rattle.words.specs.Commands.{spelled_command, InRanges};
 ghost use Rattle.words.specs.Words.{SpellsCommand, SpellNothing, HasFiles, Source, build as build_of};
 ghost use Rattle.rwc_reports.specs.Acts.{outside_of};
 ghost use Rattle.rwc_reports.specs.Answers.{text_of, PutsText, HasStatus, CallEnds, MayAnswer, ReadFails, IsRefusal};
@@ -16,8 +16,11 @@ ghost use Rattle.rwc_acts.specs.Stops.{stop_status, stop_line, status_of, line_o
 
 use crate::build::build;
 use crate::dump::dump;
+use crate::exec::exec;
+use crate::run::run;
 use rw_io::{Shelf, Sink, WriteStop, put_whole};
 use rwc_acts::{Done, Status, Stop};
+use rwc_shows::show;
 use std::alloc::Global;
 use words::{Command, read_words};
 
@@ -83,11 +86,14 @@ fn perform_command<S: Shelf, O: Sink>(
     out: &mut O,
 ) -> Result<Done, Stop>
     requires files { HasFiles (spelled_command command.now) }
-    requires pages { HasPages (spelled_command command.now) }
+    requires ranges { InRanges (spelled_command command.now) }
     ensures { KeepsCommand (spelled_command command.now) (S.state shelf.old) (S.state shelf.new) (O.state out.old) (O.state out.new) result }
 {
     match command {
         Command::Build(words) => build(alloc, words, shelf, out),
+        Command::Run(words) => run(alloc, words, shelf, out),
+        Command::Exec(words) => exec(alloc, words, shelf, out),
+        Command::Show(words) => show(alloc, &words.source, shelf, out),
         Command::Dump(words) => dump(alloc, words.file, shelf, out),
     }
 }

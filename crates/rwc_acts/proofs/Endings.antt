@@ -1,5 +1,5 @@
 -- How each exit of a job keeps to it: what was done is a front of its acts, and the line says how it ended.
-use Rattle.std.proofs.Common.{◌≡◌, ◌≤◌, arith, inl, inr, ℕ, List, [], ◌∷◌, ◌++◌, refl, ap, sym, ◌∙◌, subst, string_bytes, Ok, Err, None, Some, lit≤}
+use Rattle.std.proofs.Common.{◌≡◌, ◌≢◌, ◌≤◌, arith, inl, inr, ℕ, List, [], ◌∷◌, ◌++◌, refl, ap, sym, ◌∙◌, subst, string_bytes, Ok, Err, None, Some, lit≤}
 use Rattle.std.proofs.lemmas.List.{append-nil}
 use Rattle.std.specs.declared.option.Option.{Option}
 use Rattle.std.specs.declared.result.Result.{Result}
@@ -55,9 +55,28 @@ append_nothing (Some xs) = ap (λ (b : List ℕ). Some b) (sym (append-nil xs))
 pub tells_nothing : (state : SinkState) (status result : ℕ) → result ≡ status → Tells [] status state state result
 tells_nothing state status result same = record { count = 0; put = append_nothing state.bytes; same = inl same; changed = inl same; whole = inl (lit≤ tt) }
 
-module _ {T A : Type 0} (view : T → A) (Leads : List NamedFile → Result A Refused → Type 0) (job_of : A → Job) (files : List (List ℕ)) (statuses file : List ℕ) (shelf mid : ShelfState) where
+-- the steps to a job were stopped before anything was done
+module _ {T A : Type 0} (view : T → A) (Leads : List NamedFile → Result A Refused → Type 0) (Jobs : List NamedFile → Job → Type 0) (refuses : (told : List NamedFile) (refused : Refused) → Leads told (Err refused) → Jobs told (refusal_job refused))
+    (files : List (List ℕ)) (statuses file : List ℕ) (shelf mid : ShelfState) where
+  kept_outside : (out : SinkState) → mid.holding ≡ shelf.holding → outside_of mid out ≡ outside_of shelf out
+  kept_outside out same = ap (λ (h : Holding). let o : Outside = record { holding = h; out = out.bytes } in o) same
+
+  pub stopped_as : (listed : List ℕ) (out : SinkState) (stop : Stop) → LoadsTo view Leads listed file shelf mid (Err stop) → IsOneOf files file → ((status : ℕ) → IsOneOf listed status → IsOneOf statuses status) →
+      KeepsJob Jobs files statuses shelf mid out out (Err stop)
+  stopped_as listed out (IsRefused status line) l of also = record {
+    keeps = λ told e. carries_out (refusal_job (record { status = status; line = string_bytes line })) (refuses told _ (l.leads told e)) (record { done = []; outside = kept_outside out l.same; ends = whole refl refl refl });
+    cause = (also status l.cause, kept_outside out l.same);
+  }
+  stopped_as listed out (Unread line) l of also = record {
+    keeps = λ told e. unread file of (kept_outside out l.same) refl l.cause.0;
+    cause = (file, of, l.cause.0, l.cause.1, kept_outside out l.same);
+  }
+  stopped_as listed out (Unwritten line) l of also = absurd l.cause
+  stopped_as listed out Memory l of also = record { keeps = λ told e. unbegun (kept_outside out l.same) refl refl; cause = tt }
+
+module _ {T A : Type 0} (view : T → A) (Leads : List NamedFile → Result A Refused → Type 0) (Next : A → Job → Type 0) (files : List (List ℕ)) (statuses file : List ℕ) (shelf mid : ShelfState) where
   abbrev Jobs : List NamedFile → Job → Type 0
-  Jobs told job = JobOf (Leads told) (λ value j. j ≡ job_of value) job
+  Jobs told job = JobOf (Leads told) Next job
 
   same_outside : (out : SinkState) → mid.holding ≡ shelf.holding → outside_of mid out ≡ outside_of shelf out
   same_outside out same = ap (λ (h : Holding). let o : Outside = record { holding = h; out = out.bytes } in o) same
@@ -65,18 +84,13 @@ module _ {T A : Type 0} (view : T → A) (Leads : List NamedFile → Result A Re
   -- the steps to a job were stopped before anything was done
   pub stopped : (listed : List ℕ) (out : SinkState) (stop : Stop) → LoadsTo view Leads listed file shelf mid (Err stop) → IsOneOf files file → ((status : ℕ) → IsOneOf listed status → IsOneOf statuses status) →
       KeepsJob Jobs files statuses shelf mid out out (Err stop)
-  stopped listed out (IsRefused status line) l of also = record {
-    keeps = λ told e. carries_out (refusal_job (record { status = status; line = string_bytes line })) (stops _ (l.leads told e) refl) (record { done = []; outside = same_outside out l.same; ends = whole refl refl refl });
-    cause = (also status l.cause, same_outside out l.same);
-  }
-  stopped listed out (Unread line) l of also = record {
-    keeps = λ told e. unread file of (same_outside out l.same) refl l.cause.0;
-    cause = (file, of, l.cause.0, l.cause.1, same_outside out l.same);
-  }
-  stopped listed out (Unwritten line) l of also = absurd l.cause
-  stopped listed out Memory l of also = record { keeps = λ told e. unbegun (same_outside out l.same) refl refl; cause = tt }
+  stopped = stopped_as view Leads Jobs (λ told refused l. stops refused l refl) files statuses file shelf mid
 
-  delivered_cause : (shelf' : ShelfState) (out out' : SinkState) (result : Result Done Stop) → ((how : Done) → result ≡ Ok how → IsOneOf statuses (done_status how)) → (WriteRose mid shelf' out out' → WriteRose shelf shelf' out out') →
+  -- a job came to one of these ends
+  abbrev Comes : Done → ShelfState → Type 0
+  Comes how shelf' = IsOneOf statuses (done_status how) × (done_status how ≢ 0 → shelf'.holding ≡ shelf.holding)
+
+  delivered_cause : (shelf' : ShelfState) (out out' : SinkState) (result : Result Done Stop) → ((how : Done) → result ≡ Ok how → Comes how shelf') → (WriteRose mid shelf' out out' → WriteRose shelf shelf' out out') →
       IfStopped result (λ _ _. ⊥) (λ _. ⊥) (λ _. WriteRose mid shelf' out out') → EndsBy files statuses shelf shelf' out out' result
   delivered_cause shelf' out out' (Ok how) listed earlier causes = listed how refl
   delivered_cause shelf' out out' (Err (IsRefused status line)) listed earlier causes = absurd causes
@@ -85,19 +99,25 @@ module _ {T A : Type 0} (view : T → A) (Leads : List NamedFile → Result A Re
   delivered_cause shelf' out out' (Err Memory) listed earlier causes = tt
 
   -- the steps to a job came to a value, and its acts were done as far as they came
-  pub delivered : (listed : List ℕ) (value : T) (shelf' : ShelfState) (out out' : SinkState) (result : Result Done Stop) → LoadsTo view Leads listed file shelf mid (Ok value) →
-      CarriesOut (job_of (view value)) (outside_of mid out) (outside_of shelf' out') (status_of result) (line_of result) → ((how : Done) → result ≡ Ok how → IsOneOf statuses (done_status how)) →
+  pub delivered : (listed : List ℕ) (value : T) (job : Job) (shelf' : ShelfState) (out out' : SinkState) (result : Result Done Stop) → LoadsTo view Leads listed file shelf mid (Ok value) → Next (view value) job →
+      CarriesOut job (outside_of mid out) (outside_of shelf' out') (status_of result) (line_of result) → ((how : Done) → result ≡ Ok how → Comes how shelf') →
       (WriteRose mid shelf' out out' → WriteRose shelf shelf' out out') → IfStopped result (λ _ _. ⊥) (λ _. ⊥) (λ _. WriteRose mid shelf' out out') → KeepsJob Jobs files statuses shelf shelf' out out' result
-  delivered listed value shelf' out out' result l carried finished earlier causes = record {
-    keeps = λ told e. carries_out (job_of (view value)) (goes_on (view value) (l.leads told e) refl)
-        (subst (λ (before : Outside). CarriesOut (job_of (view value)) before (outside_of shelf' out') (status_of result) (line_of result)) (same_outside out l.same) carried);
+  delivered listed value job shelf' out out' result l next carried finished earlier causes = record {
+    keeps = λ told e. carries_out job (goes_on (view value) (l.leads told e) next)
+        (subst (λ (before : Outside). CarriesOut job before (outside_of shelf' out') (status_of result) (line_of result)) (same_outside out l.same) carried);
     cause = delivered_cause shelf' out out' result finished earlier causes;
   }
 
 -- a job that was finished has status 0
-pub finished_zero : (result : Result Done Stop) → IfOk result (λ how. how ≡ Finished) → (how : Done) → result ≡ Ok how → done_status how ≡ 0
+finished_zero : (result : Result Done Stop) → IfOk result (λ how. how ≡ Finished) → (how : Done) → result ≡ Ok how → done_status how ≡ 0
 finished_zero (Ok own) is how e = let same : own ≡ how = cc in ap done_status (sym same ∙ is)
 finished_zero (Err stop) is how e = absurd cc
+
+-- a job that was finished comes to its end
+pub finished_comes : (statuses : List ℕ) (shelf shelf' : ShelfState) (result : Result Done Stop) → IsOneOf statuses 0 → IfOk result (λ how. how ≡ Finished) → (how : Done) → result ≡ Ok how → IsOneOf statuses (done_status how) × (done_status how ≢ 0 → shelf'.holding ≡ shelf.holding)
+finished_comes statuses shelf shelf' result zero is how e =
+    let same = finished_zero result is how e in
+    (subst (λ (n : ℕ). IsOneOf statuses n) (sym same) zero, λ not_zero. absurd (not_zero same))
 
 -- a failed write has another cause
 pub written_also : (result : Result Done Stop) (P Q : Type 0) → (P → Q) → IfStopped result (λ _ _. ⊥) (λ _. ⊥) (λ _. P) → IfStopped result (λ _ _. ⊥) (λ _. ⊥) (λ _. Q)

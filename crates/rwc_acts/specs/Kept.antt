@@ -1,5 +1,5 @@
 -- How far a function of a command has come with its job.
-use Rattle.std.specs.Prelude.{◌≡◌, ℕ, List, ⊤}
+use Rattle.std.specs.Prelude.{◌≡◌, ◌≢◌, ℕ, List, ⊤}
 use Rattle.std.specs.declared.option.Option.TheVariants.{Some}
 use Rattle.std.specs.declared.result.Result.{Result}
 use Rattle.std.specs.declared.result.Result.TheVariants.{Ok, Err}
@@ -41,10 +41,11 @@ pub record LoadsTo {T A : Type 0} (view : T → A) (Leads : List NamedFile → R
   pub same : shelf'.holding ≡ shelf.holding
   pub counts : NoShelfCountFell shelf shelf'
 
--- how a job ended, files told or not: it was done or refused with one of these statuses, and nothing was written where it was
--- refused; a load of one of these files failed, and nothing was written; a write failed or stalled; or memory was wanting
+-- how a job ended, files told or not: it was done or refused with one of these statuses, and where a run came to no value nothing
+-- was created, where it was refused nothing was written; a load of one of these files failed, and nothing was written; a write
+-- failed or stalled; or memory was wanting
 abbrev pub EndsBy : List (List ℕ) → List ℕ → ShelfState → ShelfState → SinkState → SinkState → Result Done Stop → Type 0
-EndsBy files statuses shelf shelf' out out' (Ok done) = IsOneOf statuses (done_status done)
+EndsBy files statuses shelf shelf' out out' (Ok done) = IsOneOf statuses (done_status done) × (done_status done ≢ 0 → shelf'.holding ≡ shelf.holding)
 EndsBy files statuses shelf shelf' out out' (Err stop) = IfStop stop
     (λ status _. IsOneOf statuses status × (outside_of shelf' out' ≡ outside_of shelf out))
     (λ line. (file : List ℕ) × IsOneOf files file × (line ≡ read_fault_line file) × Rose shelf.load_faults shelf'.load_faults × (outside_of shelf' out' ≡ outside_of shelf out))

@@ -17,7 +17,7 @@ use rwc_lines::{lines, names};
 use std::alloc::{AllocError, Global};
 use wasm_ast::WModule;
 use wasm_codec::is_canonical;
-use wasm_decode::decode;
+use wasm_decode::{Decoded, decode};
 use wasm_reading::{DecodeError, DecodeFault};
 
 /// The lines of the counts of the module that a file spells.
@@ -34,17 +34,27 @@ pub fn lines_of_file<S: Shelf>(
     }
 }
 
+/// The module that the bytes of a file spell. A `Stop` is the refusal by their first fault, or want of memory; this project's own.
+pub fn decode_binary(alloc: Global, file: &str, bytes: &[u8]) -> Result<Decoded, Stop>
+    ensures { IsStep (λ m. m) (BinaryDecodes file.now bytes.now) result }
+{
+    match decode(alloc, bytes) {
+        Ok(decoded) => Ok(decoded),
+        Err(error) => Err(refuse(alloc, file, error)),
+    }
+}
+
 // The lines of the module that bytes spell.
 fn lines_of(alloc: Global, file: &str, bytes: &[u8]) -> Result<Vec<String>, Stop>
     requires { length bytes.now ≤ max_file_length }
     ensures { IsStep texts_of (Onward (BinaryDecodes file.now bytes.now) (λ m r. r ≡ Ok (module_lines bytes.now m))) result }
 {
-    match decode(alloc, bytes) {
+    match decode_binary(alloc, file, bytes) {
         Ok(decoded) => match lines_of_module(alloc, bytes, decoded.module()) {
             Ok(lines) => Ok(lines),
             Err(_) => Err(Stop::Memory),
         },
-        Err(error) => Err(refuse(alloc, file, error)),
+        Err(stop) => Err(stop),
     }
 }
 

@@ -1,5 +1,5 @@
 -- What each answer of a call says and leaves, from how it kept to its job.
-use Rattle.std.specs.Prelude.{◌==◌, ◌||◌, ◌&&◌}
+use Rattle.std.specs.Prelude.{◌==◌, ◌||◌}
 use Rattle.std.specs.List.{list_all}
 use Rattle.std.proofs.Common.{◌≡◌, ◌≢◌, ◌⊎◌, inl, inr, ℕ, Bool, true, false, ◌-◌, List, [], ◌∷◌, ◌++◌, length, take, drop, refl, ap, sym, ◌∙◌, subst, arith, append_assoc, Ok, None, Some}
 use Rattle.std.proofs.Math.Seq.{take-append_seam}
@@ -35,7 +35,7 @@ use Rattle.rwc_reports.proofs.Causes.{of_built_files, of_built_program, Comes, r
 use Rattle.rwc_reports.proofs.LonePrograms.{leads_to_lone}
 use Rattle.rwc_reports.proofs.OneReport.{one_report, reports_found}
 use Rattle.rwc_reports.proofs.SomeAnswer.{are_pages}
-use Rattle.rwc_reports.proofs.Steps.{same_value, not_both}
+use Rattle.rwc_reports.proofs.Steps.{same_value, not_both, one_of_all}
 use Rattle.rwc_reports.proofs.Ways.{BuildComes, refused_files, refused_program, is_built, build_comes}
 
 text_of-append : (xs ys : List Act) → text_of (xs ++ ys) ≡ text_of xs ++ text_of ys
@@ -141,15 +141,6 @@ keeps_text Jobs one job right not_four files before after status result line (un
 abbrev is_status : ℕ → Bool
 is_status n = n == 0 || n == 1 || n == 3 || n == 6 || n == 7 || n == 9 || n == 10 || n == 11
 
-all_statuses : (statuses : List ℕ) (status : ℕ) → list_all is_status statuses ≡ true → IsOneOf statuses status → is_status status ≡ true
-all_statuses [] status all none = absurd none
-all_statuses (n ∷ ns) status all one = by_first (is_status n) refl all one
-  where
-    by_first : (b : Bool) → is_status n ≡ b → (b && list_all is_status ns) ≡ true → IsOneOf (n ∷ ns) status → is_status status ≡ true
-    by_first true is more (inl e) = ap is_status e ∙ is
-    by_first true is more (inr later) = all_statuses ns status more later
-    by_first false is more one = absurd (cc)
-
 command_statuses : (command : Command) → list_all is_status (statuses_of (Some command)) ≡ true
 command_statuses (build lin unr name source) = refl
 command_statuses (run lin unr steps source) = refl
@@ -160,7 +151,7 @@ command_statuses (dump file) = refl
 -- the status of a command's job is no other
 pub listed_not : (command : Command) (status n : ℕ) → IsOneOf (statuses_of (Some command)) status → status ≡ n → is_status n ≡ false → ⊥
 listed_not command status n listed is other =
-    let bad : true ≡ false = sym (all_statuses (statuses_of (Some command)) status (command_statuses command) listed) ∙ ap is_status is ∙ other in cc
+    let bad : true ≡ false = sym (one_of_all is_status (statuses_of (Some command)) status (command_statuses command) listed) ∙ ap is_status is ∙ other in cc
 
 -- no job has status 4
 status_not_four : (command : Option Command) (status : ℕ) → IsOneOf (statuses_of command) status → status ≡ 4 → ⊥

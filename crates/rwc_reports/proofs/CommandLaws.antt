@@ -1,7 +1,7 @@
 -- What is said of one command, from its job.
-use Rattle.std.specs.Prelude.{nat_lt, ◌&&◌}
+use Rattle.std.specs.Prelude.{nat_lt}
 use Rattle.std.specs.List.{list_all}
-use Rattle.std.proofs.Common.{◌≡◌, ◌≢◌, ◌≤◌, ◌<◌, inl, inr, ℕ, suc, Bool, true, false, List, [], ◌∷◌, length, refl, ap, sym, ◌∙◌, subst, arith, lit<, Ok, Err, None, Some}
+use Rattle.std.proofs.Common.{◌≡◌, ◌≢◌, ◌≤◌, ◌<◌, inl, inr, ℕ, suc, true, List, [], ◌∷◌, length, refl, ap, sym, ◌∙◌, subst, arith, lit<, Ok, Err, None, Some}
 use Rattle.std.proofs.lemmas.Bool.{leb-true}
 use Rattle.std.specs.declared.option.Option.{Option}
 use Rattle.wasm_ast.specs.declared.modules.WModule.{WModule}
@@ -42,7 +42,7 @@ use Rattle.rwc_reports.proofs.OneReport.{reports_found}
 use Rattle.rwc_reports.proofs.Runs.{run_status}
 use Rattle.rwc_reports.proofs.SomeAnswer.{are_pages, run_pages}
 use Rattle.rwc_reports.proofs.Ways.{BuildComes, refused_files, refused_program, is_built, build_comes, DumpComes, refused_file, refused_binary, is_dumped, dump_comes}
-use Rattle.rwc_reports.proofs.Steps.{same_value, same_refused, not_both, value_of_one}
+use Rattle.rwc_reports.proofs.Steps.{same_value, same_refused, not_both, value_of_one, one_of_all}
 
 pub statuses_of_commands : StatusesOfCommands
 statuses_of_commands words told job (command, found, reports) = (command, found, job_status command told job reports)
@@ -178,13 +178,7 @@ run_long words lin unr steps source told job found (goes_on program leads (goes_
     of_run (inr (inr (inr none))) = absurd none
 
 all_short : (statuses : List ℕ) (status : ℕ) → list_all (λ n. nat_lt n 10) statuses ≡ true → IsOneOf statuses status → NotLong status
-all_short [] status all none = absurd none
-all_short (n ∷ ns) status all one = by_first (nat_lt n 10) refl all one
-  where
-    by_first : (b : Bool) → nat_lt n 10 ≡ b → (b && list_all (λ k. nat_lt k 10) ns) ≡ true → IsOneOf (n ∷ ns) status → NotLong status
-    by_first true is more (inl e) = not_long status n e (leb-true (suc n) 10 is)
-    by_first true is more (inr later) = all_short ns status more later
-    by_first false is more one = absurd (cc)
+all_short statuses status all one = not_long status status refl (leb-true (suc status) 10 (one_of_all (λ n. nat_lt n 10) statuses status all one))
 
 none_long : (words : List (List ℕ)) (command : Option Command) (told : List NamedFile) (job : Job) → Finds (SpellsCommand words) command → CommandReports command told job → NotLong job.status
 none_long words None told job found is = not_long job.status 2 (ap (λ (j : Job). j.status) is) (lit< tt)

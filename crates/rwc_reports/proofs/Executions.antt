@@ -13,6 +13,7 @@ use Rattle.wasm_soundness.proofs.Starts.{valid_never_stuck}
 use Rattle.wasm_execution.specs.Behaviour.{wasm}
 use Rattle.wasm_execution.specs.Configurations.{Config}
 use Rattle.wasm_execution.specs.Starts.{Start, UnknownImport, SegmentOut, NoMain, NoStartFunction, Begins, start_of}
+use Rattle.rw_program.specs.LonePrograms.{IsLoneProgram}
 use Rattle.rw_program.specs.Programs.{Program}
 use Rattle.lowering_table.specs.declared.Pages.{Pages}
 use Rattle.lowering_table.specs.Modules.{ArePages, low_module}
@@ -149,6 +150,11 @@ nine file m refused (goes_on n v (unknown_import i is e)) = handed refused _ 9 e
 nine file m refused (goes_on n v (segment_out i is e)) = handed refused _ 9 e refl
 nine file m refused (goes_on n v (no_exported_main is e)) = handed refused _ 9 e refl
 
+-- bytes that do not run are refused with 9
+pub running_status : (file bytes : List ℕ) (refused : Refused) → Onward (BinaryDecodes file bytes) (ModuleRuns file) (Err refused) → refused.status ≡ 9
+running_status file bytes refused (stops r decodes e) = handed refused r 9 e (decode_status file bytes r decodes)
+running_status file bytes refused (goes_on m decodes runs) = nine file m refused runs
+
 executable_status : (told : List NamedFile) (file : List ℕ) (refused : Refused) → ExecutableLeads told file (Err refused) → HasStatus 3 refused ⊎ HasStatus 9 refused
 executable_status told file refused (stops r load e) = inl (handed refused r 3 e (load_status told file r load))
 executable_status told file refused (goes_on bytes load (stops r decodes e)) = inr (handed refused r 9 e (decode_status file bytes r decodes))
@@ -177,17 +183,28 @@ pub one_execution : OneExecution
 one_execution steps file = record { some = some_execution_job steps file; one = one_execution_job steps file; status = λ told job. execution_status told file steps job }
 
 module _ (pages : Pages) (are : ArePages pages) where
-  lowered_can : (told : List NamedFile) (source : Source) (program : Program) → FilesLead told (source ∷ []) (Ok program) → CanRun (low_module program pages)
-  lowered_can told source program leads =
-      let lone = leads_to_lone told source program leads in
+  lone_can : (program : Program) → IsLoneProgram program → CanRun (low_module program pages)
+  lone_can program lone =
       let begins = low_starts program pages lone are in
       record { is_valid = low_is_valid program pages lone are; fits = low_is_in_profile program pages lone are; first = begins.0; starts = begins.1 }
+
+  lowered_can : (told : List NamedFile) (source : Source) (program : Program) → FilesLead told (source ∷ []) (Ok program) → CanRun (low_module program pages)
+  lowered_can told source program leads = lone_can program (leads_to_lone told source program leads)
+
+  -- the binary of a program leads to its lowered module, and is never refused
+  pub lone_runs : (file : List ℕ) (program : Program) → IsLoneProgram program → (r : Result WModule Refused) → Onward (BinaryDecodes file (module_bytes (low_module program pages))) (ModuleRuns file) r → r ≡ Ok (low_module program pages)
+  lone_runs file program lone r leads =
+      let m = low_module program pages in
+      let can = lone_can program lone in
+      let spells = canonical_bytes_spell m (low_is_in_profile program pages lone are) (low_has_short_contents program pages lone are) in
+      one_then (λ refused. Err refused) (BinaryDecodes file (module_bytes m)) (ModuleRuns file) (one_decoding file (module_bytes m)) (λ n also. one_running file n) r (Ok m)
+      leads (goes_on m (decoded m spells refl) (goes_on m (valid can.is_valid refl) (begins can.first can.starts refl)))
 
   encoded_bytes : (m : WModule) (binary : List ℕ) → ModuleEncodes m (Ok binary) → binary ≡ module_bytes m
   encoded_bytes m binary (encoded short e) = same_value binary (module_bytes m) e
   encoded_bytes m binary (too_long id first e) = absurd (not_both binary _ e)
 
-  program_bytes : (program : Program) (binary : List ℕ) → ProgramLeads pages program (Ok binary) → binary ≡ module_bytes (low_module program pages)
+  pub program_bytes : (program : Program) (binary : List ℕ) → ProgramLeads pages program (Ok binary) → binary ≡ module_bytes (low_module program pages)
   program_bytes program binary (stops r low e) = absurd (not_both binary r e)
   program_bytes program binary (goes_on m low encodes) = encoded_bytes m binary encodes ∙ ap module_bytes (same_value m (low_module program pages) low)
 

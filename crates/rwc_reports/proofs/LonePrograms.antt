@@ -35,7 +35,7 @@ whole_program : (source : Module) (notes : List (List Note)) (t : IsTyped source
 whole_program source notes t own is =
     ap (λ (m : Module). program_of (record { source = m; notes = notes })) t.lone.is ∙ ap (λ (all : List (List Note)). program_of (record { source = lone_main t.lone.body; notes = all })) is
 
-program_lone : (source : Module) (notes : List (List Note)) (q : Program) → IsTyped source notes → program_of (record { source = source; notes = notes }) ≡ Some q → IsLoneProgram q
+pub program_lone : (source : Module) (notes : List (List Note)) (q : Program) → IsTyped source notes → program_of (record { source = source; notes = notes }) ≡ Some q → IsLoneProgram q
 program_lone source notes q t links =
     let body = t.lone.body in
     let one = one_body body notes (subst (λ (m : Module). HaveDerivations m.funcs notes) t.lone.is t.bodies) in

@@ -52,7 +52,7 @@ module _ (run : ℕ → Seen) (keeps : Stays run) (steps : ℕ) where
       let same : k ≡ suc j = omega (arith, is) in
       ap (λ (i : ℕ). (run i).stand) same ∙ keeps j e (later_by d n j e refl over)
 
-  later : (n k : ℕ) (e : End) → n ≤ k → (run n).stand ≡ Over e → (run k).stand ≡ Over e
+  pub later : (n k : ℕ) (e : End) → n ≤ k → (run n).stand ≡ Over e → (run k).stand ≡ Over e
   later n k e le is = later_by (k - n) n k e (omega (arith, le)) is
 
   pub one_run : (a b : Job) → RunReports run steps a → RunReports run steps b → a ≡ b

@@ -1,7 +1,9 @@
 -- Steps one after another: where each comes to one answer at most, they do together; where each comes to some, they do.
-use Rattle.std.proofs.Common.{◌≡◌, List, [], ◌∷◌, refl, ap, sym, ◌∙◌, subst, Ok, Err}
+use Rattle.std.specs.Prelude.{◌&&◌}
+use Rattle.std.specs.List.{list_all}
+use Rattle.std.proofs.Common.{◌≡◌, inl, inr, Bool, true, false, List, [], ◌∷◌, refl, ap, sym, ◌∙◌, subst, Ok, Err}
 use Rattle.std.specs.declared.result.Result.{Result}
-use Rattle.rwc_reports.specs.Steps.{Refused, Then, goes_on, stops, Onward, EachLeads, FirstRefused}
+use Rattle.rwc_reports.specs.Steps.{Refused, Then, goes_on, stops, Onward, EachLeads, FirstRefused, IsOneOf}
 
 pub same_value : {A : Type 0} (a b : A) → (let r : Result A Refused = Ok a in r) ≡ Ok b → a ≡ b
 same_value a b e = cc
@@ -73,3 +75,13 @@ first_refused Step (x ∷ xs) refused (goes_on value f (stops p g e)) =
       passed = goes_on value f (goes_on first.values first.passed refl);
       is = first.is;
     }
+
+-- what holds of each of a list holds of one of it
+pub one_of_all : {A : Type 0} (test : A → Bool) (xs : List A) (x : A) → list_all test xs ≡ true → IsOneOf xs x → test x ≡ true
+one_of_all test [] x all none = absurd none
+one_of_all test (y ∷ ys) x all one = by_first test y ys x (test y) refl all one (one_of_all test ys x)
+  where
+    by_first : {A : Type 0} (test : A → Bool) (y : A) (ys : List A) (x : A) (b : Bool) → test y ≡ b → (b && list_all test ys) ≡ true → IsOneOf (y ∷ ys) x → (list_all test ys ≡ true → IsOneOf ys x → test x ≡ true) → test x ≡ true
+    by_first test y ys x true is more (inl e) later = ap test e ∙ is
+    by_first test y ys x true is more (inr one) later = later more one
+    by_first test y ys x false is more one later = absurd (cc)

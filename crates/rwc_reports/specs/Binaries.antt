@@ -10,6 +10,7 @@ use Rattle.wasm_reading.specs.declared.fault.DecodeError.{DecodeError}
 use Rattle.wasm_reading.specs.declared.fault.DecodeFault.{DecodeFault}
 use Rattle.wasm_reading.specs.declared.fault.DecodeFault.TheVariants as fault
 use Rattle.wasm_reading_laws.specs.ModulesRead.{HasFirstFault}
+use Rattle.rw_program.specs.LonePrograms.{IsLoneProgram}
 use Rattle.rw_program.specs.Programs.{Program}
 use Rattle.lowering_table.specs.declared.Pages.{Pages}
 use Rattle.lowering_table.specs.Modules.{low_module}
@@ -28,6 +29,12 @@ pub data ModuleEncodes (m : WModule) (r : Result (List ℕ) Refused) : Type 0 wh
 -- the binary of a program with so many pages
 abbrev pub ProgramLeads : Pages → Program → Result (List ℕ) Refused → Type 0
 ProgramLeads pages program r = Onward (ProgramLowers pages program) ModuleEncodes r
+
+-- the canonical bytes of the lowered module of a program of today
+pub record IsLoneBinary (pages : Pages) (bytes : List ℕ) : Type 0 where
+  pub program : Program
+  pub lone : IsLoneProgram program
+  pub is : bytes ≡ module_bytes (low_module program pages)
 
 -- the names of the faults
 abbrev pub fault_name : DecodeFault → List ℕ

@@ -1,11 +1,13 @@
 // From a source file to the bytes of a binary, a step after another.
 ghost use Rattle.std.specs.Prelude.{◌≡◌, List, [], ◌∷◌, IfOk, Some};
+ghost use Rattle.rich_typing.specs.Derivations.{IsTyped};
 ghost use Rattle.rw_program.specs.Linking.{program_of};
 ghost use Rattle.lowering_table.specs.Modules.{ArePages};
+ghost use Rattle.wasm_grammar.specs.CanonicalModules.{module_bytes};
 ghost use Rattle.wasm_grammar.specs.Nesting.{ModuleNestsAtMost, nesting_limit};
 ghost use Rattle.words.specs.Commands.{spelled_source};
 ghost use Rattle.words.specs.Words.{IsSourceNamed};
-ghost use Rattle.rwc_reports.specs.Binaries.{ProgramLowers, ModuleEncodes};
+ghost use Rattle.rwc_reports.specs.Binaries.{ProgramLowers, ModuleEncodes, IsLoneBinary};
 ghost use Rattle.rwc_reports.specs.Reports.{BinaryLeads};
 ghost use Rattle.rwc_reports.specs.Sources.{ModuleChecks};
 ghost use Rattle.rwc_acts.specs.Kept.{LoadsTo};
@@ -35,8 +37,9 @@ pub fn compile<S: Shelf>(
 ) -> Result<Vec<u8>, Stop>
     requires source { IsSourceNamed source.now.file.now (spelled_source source.now) }
     requires pages { ArePages pages.now }
-    ensures { LoadsTo bytes_of (λ told. BinaryLeads told (spelled_source source.now ∷ []) pages.now) (1 ∷ 3 ∷ 11 ∷ []) source.now.file.now
+    ensures loads { LoadsTo bytes_of (λ told. BinaryLeads told (spelled_source source.now ∷ []) pages.now) (1 ∷ 3 ∷ 11 ∷ []) source.now.file.now
         (S.state shelf.old) (S.state shelf.new) result }
+    ensures lone { IfOk result (λ bytes. IsLoneBinary pages.now bytes.items) }
 {
     let text = load_file(alloc, shelf, source.file)?;
     let module = read_source(alloc, source, &text)?;
@@ -48,7 +51,8 @@ pub fn compile<S: Shelf>(
 
 // A module that is well typed.
 fn check_module(alloc: Global, file: &str, module: Module) -> Result<Checked, Stop>
-    ensures { IsStep (λ checked. checked) (ModuleChecks file.now «module») result }
+    ensures checks { IsStep (λ checked. checked) (ModuleChecks file.now «module») result }
+    ensures typed { IfOk result (λ checked. IsTyped checked.source checked.notes) }
 {
     match check(alloc, module) {
         Ok(checked) => Ok(checked),
@@ -105,7 +109,8 @@ fn lower_program(alloc: Global, pages: &Pages, program: &Linked) -> Result<WModu
 // The canonical bytes of a module.
 fn encode_module(alloc: Global, lowered: &WModule) -> Result<Vec<u8>, Stop>
     requires { ModuleNestsAtMost nesting_limit lowered.now }
-    ensures { IsStep bytes_of (ModuleEncodes lowered.now) result }
+    ensures encodes { IsStep bytes_of (ModuleEncodes lowered.now) result }
+    ensures bytes { IfOk result (λ bytes. bytes.items ≡ module_bytes lowered.now) }
 {
     match encode(alloc, lowered) {
         Ok(bytes) => Ok(bytes),

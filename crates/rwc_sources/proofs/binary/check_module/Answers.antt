@@ -1,6 +1,7 @@
 -- A first violation of today's modules tells no type.
-use Rattle.std.proofs.Common.{◌≡◌, List, ℕ, ap, sym, ◌∙◌, Ok, Err, None}
+use Rattle.std.proofs.Common.{◌≡◌, List, ℕ, ap, sym, subst, ◌∙◌, Ok, Err, None}
 use Rattle.std.specs.Prelude.{codes}
+use Rattle.rich_typing.specs.Derivations.{IsTyped}
 use Rattle.rich_typing.specs.Violations.{Violation, FirstViolation}
 use Rattle.rw_program.specs.Modules.{TypedModule}
 use Rattle.rw_types.specs.declared.modules.Module.{Module}
@@ -20,16 +21,19 @@ untold file m v first found expected = violated v first
     (ap (λ (t : Option Ty). let r : Result TypedModule Refused = Err (record { status = 1; line = refused_line file (place_text v.place) (rule_name v.broken) (told_type t) (codes "-") }) in r) (sym found)
     ∙ ap (λ (t : Option Ty). let r : Result TypedModule Refused = Err (record { status = 1; line = refused_line file (place_text v.place) (rule_name v.broken) (told_type v.found) (told_type t) }) in r) (sym expected))
 
-pub returns-in-Ok : goal.returns-in-Ok
-returns-in-Ok c =
+pub returns-in-Ok-clause-checks : goal.returns-in-Ok-clause-checks
+returns-in-Ok-clause-checks c =
     let t = c.in-Ok.ensures.typed in
     let checked = c.in-Ok.checked in
     typed checked.notes t.1 (ap (λ (m : Module). let r : Result TypedModule Refused = Ok (record { source = m; notes = checked.notes }) in r) t.0)
 
-pub returns-in-Err-Refused : goal.returns-in-Err-Refused
-returns-in-Err-Refused c =
+pub returns-in-Err-Refused-clause-checks : goal.returns-in-Err-Refused-clause-checks
+returns-in-Err-Refused-clause-checks c =
     let first = rw c.in-Err-Refused.field-0-is at c.in-Err-Refused.ensures.refused in
     let none = rw c.in-Err-Refused.field-0-is at c.in-Err-Refused.ensures.untyped in
     let file = c.args.file.now in
     refused_step (λ checked. checked) (ModuleChecks file c.args.«module») 1 c.refused.result c.refused-in-Err-Refused.result _ c.refused-in-Err-Refused.ensures c.refused.ensures
     (untold file c.args.«module» _ first none.0 none.1)
+
+pub returns-in-Ok-clause-typed : goal.returns-in-Ok-clause-typed
+returns-in-Ok-clause-typed c = let t = c.in-Ok.ensures.typed in subst (λ (m : Module). IsTyped m c.in-Ok.checked.notes) (sym t.0) t.1

@@ -7,11 +7,11 @@ use Rattle.rwc_acts.specs.Stops.{bytes_of}
 use Rattle.rwc_acts.proofs.Loading.{refused_step}
 use Rattle.rwc_sources.proofs.binary.encode_module.Goals as goal
 
-pub returns-in-Ok : goal.returns-in-Ok
-returns-in-Ok c = encoded c.in-Ok.ensures.fits (ap (λ (b : List ℕ). let r : Result (List ℕ) Refused = Ok b in r) c.in-Ok.ensures.bytes)
+pub returns-in-Ok-clause-encodes : goal.returns-in-Ok-clause-encodes
+returns-in-Ok-clause-encodes c = encoded c.in-Ok.ensures.fits (ap (λ (b : List ℕ). let r : Result (List ℕ) Refused = Ok b in r) c.in-Ok.ensures.bytes)
 
-pub returns-in-Err-TooLong : goal.returns-in-Err-TooLong
-returns-in-Err-TooLong c =
+pub returns-in-Err-TooLong-clause-encodes : goal.returns-in-Err-TooLong-clause-encodes
+returns-in-Err-TooLong-clause-encodes c =
     let id = c.in-Err-TooLong.section in
     let told = rw c.in-Err-TooLong.field-0-is at c.in-Err-TooLong.ensures.long in
     refused_step bytes_of (ModuleEncodes c.args.lowered.now) 11 c.too_many_section.result c.refused.result (too_many_section_line id) c.refused.ensures c.too_many_section.ensures

@@ -1,5 +1,5 @@
 -- A fault that is told has a name, and is the first one.
-use Rattle.std.proofs.Common.{◌≡◌, ℕ, List, refl, ap, sym, Err, None, Some}
+use Rattle.std.proofs.Common.{◌≡◌, ℕ, List, refl, ap, Err, None, Some}
 use Rattle.std.specs.Option.{MatchOption, option_map}
 use Rattle.std.specs.declared.option.Option.{Option}
 use Rattle.std.specs.declared.result.Result.{Result}

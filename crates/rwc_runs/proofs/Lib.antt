@@ -1,0 +1,5 @@
+pub mod Fronts
+pub mod Puts
+pub mod Jobs
+pub mod Executing
+pub mod Kept
