@@ -22,7 +22,7 @@ use Rattle.rwc_reports.specs.Jobs.{Job, JobOf, refusal_job, lines_job}
 use Rattle.rwc_reports.specs.Shows.{lines_of, shown_lines, ShowReports}
 use Rattle.rwc_reports.specs.Sources.{TextReads, spelled, faulty}
 use Rattle.rwc_reports.specs.Steps.{Refused, goes_on, stops}
-use Rattle.rwc_shows.specs.Shown.{lines_in, LinesLead, TextShows}
+use Rattle.rwc_shows.specs.Shown.{lines_in, ShownLinesLead, TextShows}
 
 -- the text that is written is the canonical one
 pub text_shows : (source : Source) (bytes text : List ℕ) (m : Module) → TextReads source.kind source.file bytes (Ok m) → text ≡ module_text m → TextShows source bytes (Ok (lines_of text))
@@ -43,7 +43,7 @@ refused_text_status source bytes refused (goes_on m reads e) = absurd (not_both 
 refused_text_status source bytes refused (stops q reads e) = ap (λ (r : Refused). r.status) (same_refused refused q e) ∙ text_status source.kind source.file bytes q reads
 
 -- a job of the lines is one of showing the source
-pub shows : (source : Source) (told : List NamedFile) (job : Job) → JobOf (LinesLead told source) (λ lines j. j ≡ lines_job lines 0) job → ShowReports source told job
+pub shows : (source : Source) (told : List NamedFile) (job : Job) → JobOf (ShownLinesLead told source) (λ lines j. j ≡ lines_job lines 0) job → ShowReports source told job
 shows source told job (goes_on lines (goes_on bytes load (goes_on m text e)) is) = goes_on m (goes_on bytes load text) (is ∙ ap (λ (l : List (List ℕ)). lines_job l 0) (same_value lines (shown_lines m) e))
 shows source told job (goes_on lines (goes_on bytes load (stops r text e)) is) = absurd (not_both lines r e)
 shows source told job (goes_on lines (stops r load e) is) = absurd (not_both lines r e)
@@ -58,5 +58,5 @@ keeps_also P Q files before after status line also (unbegun same eight says) = u
 
 -- what keeps to one of the former keeps to one of the latter
 pub keeps_shown : (source : Source) (files : List (List ℕ)) (statuses : List ℕ) (shelf shelf' : ShelfState) (out out' : SinkState) (result : Result Done Stop) →
-    KeepsJob (λ told job. JobOf (LinesLead told source) (λ lines j. j ≡ lines_job lines 0) job) files statuses shelf shelf' out out' result → KeepsJob (ShowReports source) files statuses shelf shelf' out out' result
+    KeepsJob (λ told job. JobOf (ShownLinesLead told source) (λ lines j. j ≡ lines_job lines 0) job) files statuses shelf shelf' out out' result → KeepsJob (ShowReports source) files statuses shelf shelf' out out' result
 keeps_shown source files statuses shelf shelf' out out' result k = record { keeps = λ told e. keeps_also _ _ _ _ _ _ _ (shows source told) (k.keeps told e); cause = k.cause }

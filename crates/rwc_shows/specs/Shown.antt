@@ -18,5 +18,5 @@ abbrev pub TextShows : Source → List ℕ → Result (List (List ℕ)) Refused 
 TextShows source bytes r = Onward (TextReads source.kind source.file bytes) (λ m s. s ≡ Ok (shown_lines m)) r
 
 -- the lines that a told source leads to
-abbrev pub LinesLead : List NamedFile → Source → Result (List (List ℕ)) Refused → Type 0
-LinesLead told source r = Onward (FileLoads told source.file) (TextShows source) r
+abbrev pub ShownLinesLead : List NamedFile → Source → Result (List (List ℕ)) Refused → Type 0
+ShownLinesLead told source r = Onward (FileLoads told source.file) (TextShows source) r

@@ -4,7 +4,7 @@ ghost use Rattle.words.specs.Commands.{spelled_source};
 ghost use Rattle.rwc_reports.specs.Shows.{ShowReports};
 ghost use Rattle.rwc_acts.specs.Kept.{KeepsJob, LoadsTo};
 ghost use Rattle.rwc_acts.specs.Stops.{IsStep};
-ghost use Rattle.rwc_shows.specs.Shown.{lines_in, LinesLead, TextShows};
+ghost use Rattle.rwc_shows.specs.Shown.{lines_in, ShownLinesLead, TextShows};
 
 use crate::lines::put_text;
 use rw_io::{Shelf, Sink};
@@ -36,7 +36,7 @@ fn shown_text<S: Shelf>(
     source: &SourceFile<'_>,
     shelf: &mut S,
 ) -> Result<Vec<u8>, Stop>
-    ensures { LoadsTo lines_in (λ told. LinesLead told (spelled_source source.now)) (1 ∷ 3 ∷ []) source.now.file.now (S.state shelf.old) (S.state shelf.new) result }
+    ensures { LoadsTo lines_in (λ told. ShownLinesLead told (spelled_source source.now)) (1 ∷ 3 ∷ []) source.now.file.now (S.state shelf.old) (S.state shelf.new) result }
 {
     match load_file(alloc, shelf, source.file) {
         Ok(bytes) => text_of(alloc, source, &bytes),
