@@ -1,4 +1,4 @@
 mod Layouts
 mod Decimals
 mod Forms
-mod Whole
+pub mod Whole
