@@ -1,0 +1,35 @@
+-- What a machine's calls say of it, by its configuration.
+use Rattle.std.proofs.Common.{◌≡◌, ◌≢◌, ℕ, List, ◌∷◌, ◌≤◌, Bor, true, refl, sym, subst, inl, inr, ltb, arith, rules, ◌⊎◌}
+use Rattle.std.specs.Prelude.{Option, Some, None, Result, Ok, Err, OnErr, IsNone, is_some, ◌↔◌}
+use Rattle.std.specs.Option.{option_copied}
+use Rattle.std.proofs.lemmas.Bool.{ltb-true}
+use Rattle.std.proofs.lemmas.Bool.Decides.{nat_tests}
+use Rattle.machine_steps.specs.declared.End.{End}
+use Rattle.wasm_ast.specs.declared.instructions.WInstr.{WInstr}
+use Rattle.wasm_ast.specs.declared.modules.WModule.{WModule}
+use Rattle.wasm_ast.specs.Operations.{operation_of}
+use Rattle.wasm_execution.specs.Configurations.{ThenCall, Config}
+use Rattle.wasm_run_state.specs.States.{bottom_of, config_of}
+use Rattle.wasm_run_state.specs.declared.state.State.{State}
+use Rattle.wasm_run_dispatch.specs.Finding.{Allocates}
+use Rattle.wasm_run.specs.Progress.{MayAllocate, Progress}
+
+abbrev pub progress : WModule → Config → ℕ → Option End → Progress
+progress m c made ended = record { source = m; config = c; steps = made; ended = ended }
+
+in_start : (o : Option ℕ) → o ≢ None → (n : ℕ) × (bottom_of o ≡ ThenCall n)
+in_start None k = absurd (k refl)
+in_start (Some n) k = (n, refl)
+
+pub may_allocate : (s : State)
+    → (s.next_call ≢ None) ⊎ ((i : WInstr) × (rest : List WInstr) × (s.frames.code.now ≡ i ∷ rest) × Allocates (operation_of i)) → MayAllocate (config_of s)
+may_allocate s k = elim k [ inl h ↦ inl (in_start s.next_call h) | inr h ↦ inr h ]
+
+pub on_err : {A E : Type 0} {P : Type 0} → (r : Result A E) → P → OnErr r P
+on_err (Ok x) p = tt
+on_err (Err e) p = p
+
+-- what was looked up is not there exactly where its place is past the end
+pub past_end : (o : Option (Bor ℕ)) (r : Option ℕ) (k n m : ℕ) → r ≡ option_copied o → is_some o ≡ ltb k n → n ≡ m → IsNone r ↔ (m ≤ k)
+past_end None r k n m q e s = subst (λ (x : Option ℕ). IsNone x ↔ (m ≤ k)) (sym q) (λ _. grind (arith, nat_tests), λ _. search rules)
+past_end (Some b) r k n m q e s = subst (λ (x : Option ℕ). IsNone x ↔ (m ≤ k)) (sym q) (λ h. absurd (cc), λ le. let past : ltb k n ≡ true = sym e in absurd (omega (arith, ltb-true k n past)))
