@@ -29,11 +29,11 @@ use Rattle.lowering_heights.proofs.Ends.{end_operands, goes_further}
 use Rattle.lowering_heights.proofs.Counted.{at_least, counted, counted_arms, heights_end, heights_parted, nested_texts, note_tells, texts}
 
 -- the words at the end of a list that an entry opens
-abbrev inner_end : Entry → ℕ
+abbrev pub inner_end : Entry → ℕ
 inner_end e = list_size (scope_of e.inner.binders) e.demand.types + rest_size (scope_of e.inner.binders) e.inner.labels
 
 -- they are those behind the instruction
-abbrev EndsAlike : Point → Entry → Type 0
+abbrev pub EndsAlike : Point → Entry → Type 0
 EndsAlike p e = inner_end e ≡ height_at (after e p)
 
 plain_entry : (p : Point) (b : BlockSig) (l : Label) (beneath : List Ty) (payloads : List (List Ty)) → l.rest ≡ beneath → EndsAlike p (entry p b l beneath payloads)
@@ -68,7 +68,7 @@ module _ (f : Frame) (p : Point) (w : IsFormedPoint p) where
       let formed = subst (λ (h : Entry). AreFormed (scope_of p.binders) h.operands) (same_entry e g x) v.operands in
       of_entry e g x (entry_of_binder p b binder beneath t w formed)
 
-  ends_alike : (i : Instr) (e : Entry) (j : ℕ) (list : List Instr) → row f p i ≡ Enters e → slice_get (arms_of i) j ≡ Some list → IsFormedPoint (after e p) → EndsAlike p e
+  pub ends_alike : (i : Instr) (e : Entry) (j : ℕ) (list : List Instr) → row f p i ≡ Enters e → slice_get (arms_of i) j ≡ Some list → IsFormedPoint (after e p) → EndsAlike p e
   unfolding row
   ends_alike (Block' b m is) e j list r g v = let x = rows.block f p b (Enters e) r tt in of_entry e _ x.given (plain_entry p b (end_label p b x.beneath) x.beneath [] refl)
   ends_alike (Loop' b m is) e j list r g v = let x = rows.loops f p b (Enters e) r tt in of_entry e _ x.given (plain_entry p b (start_label p b x.beneath) x.beneath [] refl)
@@ -80,12 +80,12 @@ module _ (f : Frame) (p : Point) (w : IsFormedPoint p) where
   ends_alike _ e j list r g v = cc
 
 -- the end of a list behind an instruction that goes on
-end_behind : (i : Instr) (is : List Instr) (d : Demand) (p : Point) → ends_list i ≡ false → end_height (i ∷ is) d p ≡ end_height is d p
+pub end_behind : (i : Instr) (is : List Instr) (d : Demand) (p : Point) → ends_list i ≡ false → end_height (i ∷ is) d p ≡ end_height is d p
 end_behind i [] d p e = ap (λ (b : Bool). if b then 0 else list_size (scope_of p.binders) d.types + rest_size (scope_of p.binders) p.labels) e
 end_behind i (j ∷ is) d p e = refl
 
 -- a list that is ended needs no more than one that is not
-end_within : (is : List Instr) (d : Demand) (p : Point) (room : ℕ) → list_size (scope_of p.binders) d.types + rest_size (scope_of p.binders) p.labels ≤ room → end_height is d p ≤ room
+pub end_within : (is : List Instr) (d : Demand) (p : Point) (room : ℕ) → list_size (scope_of p.binders) d.types + rest_size (scope_of p.binders) p.labels ≤ room → end_height is d p ≤ room
 end_within is d p room h = by_test (Rattle.layout.specs.Bodies.is_ended is)
   where
     by_test : (b : Bool) → (if b then 0 else list_size (scope_of p.binders) d.types + rest_size (scope_of p.binders) p.labels) ≤ room
@@ -94,17 +94,17 @@ end_within is d p room h = by_test (Rattle.layout.specs.Bodies.is_ended is)
 
 module _ (f : Frame) where
   -- a list has this room
-  abbrev HasRoom : ℕ → Demand → Point → List Instr → List Note → Type 0
+  abbrev pub HasRoom : ℕ → Demand → Point → List Instr → List Note → Type 0
   HasRoom room d p is notes = greatest_height (text_order is) notes (end_height is d p) ≤ room
 
-  first : {d : Demand} {p : Point} (is : List Instr) {notes : List Note} (room : ℕ) → Derives f d p is notes → HasRoom room d p is notes → height_at p ≤ room
+  pub first : {d : Demand} {p : Point} (is : List Instr) {notes : List Note} (room : ℕ) → Derives f d p is notes → HasRoom room d p is notes → height_at p ≤ room
   first {d} {p} [] {notes} room (at_end e nn) h = omega (arith, h, ap (λ (ts : List Ty). list_size (scope_of p.binders) ts) (end_operands d p e))
   first {d} {p} (i ∷ is) room (step o ns r nn x) h =
       let g = subst (λ (l : List Note). HasRoom room d p (i ∷ is) l) nn h in
       omega (arith, g, at_least i (note_of f p i), note_tells f p i)
 
   -- what is left of the room for the lists of an instruction, and for those behind it
-  parted : (d : Demand) (p : Point) (i : Instr) (is : List Instr) (note : Note) (inner outer : List Note) (room : ℕ) → length inner ≡ length (nested i) → ends_list i ≡ false → HasRoom room d p (i ∷ is) (note ∷ (inner ++ outer)) →
+  pub parted : (d : Demand) (p : Point) (i : Instr) (is : List Instr) (note : Note) (inner outer : List Note) (room : ℕ) → length inner ≡ length (nested i) → ends_list i ≡ false → HasRoom room d p (i ∷ is) (note ∷ (inner ++ outer)) →
       (greatest_height (nested i) inner 0 ≤ room) × HasRoom room d p is outer
   parted d p i is note inner outer room l e h =
       let both = heights_parted (nested i) (text_order is) inner outer (end_height (i ∷ is) d p) l in
