@@ -1,3 +1,4 @@
-pub mod Turning
 pub mod Starting
 pub mod Going
+pub mod Memoryless
+pub mod Turning

@@ -1,4 +1,4 @@
-ghost use Rattle.std.specs.Prelude.{◌≡◌, ◌+◌, ◌^◌, ◌<◌, ◌≤◌, ◌↔◌, IfOk, IfErr, OnErr, IsNone, length, slice_get};
+ghost use Rattle.std.specs.Prelude.{◌≡◌, [], ◌+◌, ◌^◌, ◌<◌, ◌≤◌, ◌↔◌, IfOk, IfErr, OnErr, IsNone, length, slice_get};
 ghost use Rattle.rw_io.specs.States.{NoSinkCountFell};
 ghost use Rattle.machine_runs.specs.Runs.{Runs, Stops};
 ghost use Rattle.machine_runs.specs.Turns.{Turns};
@@ -30,7 +30,7 @@ pub struct Machine<'a> {
 }
 
 impl<'a> Model for Machine<'a> {
-    ghost use Rattle.std.specs.Prelude.{◌≡◌, length};
+    ghost use Rattle.std.specs.Prelude.{◌≡◌, [], length};
     ghost use Rattle.std.specs.Coded.{codes};
     ghost use Rattle.wasm_ast.specs.contracts.instructions.WInstr as instr;
     ghost use Rattle.wasm_typing.specs.Contexts.{context_of};
@@ -45,7 +45,8 @@ impl<'a> Model for Machine<'a> {
     ghost view = { λ m. record { source = m.functions.environment; config = config_of m.state; steps = m.steps; ended = m.ended } };
 
     ghost invariant = { λ m. IsRunning m.functions.environment m.trap_code m.most_pages m.state
-        × (length (context_of m.functions.environment).globals ≡ length m.functions.environment.globals) };
+        × (length (context_of m.functions.environment).globals ≡ length m.functions.environment.globals)
+        × (m.functions.environment.memories ≡ [] → length m.state.memory ≡ 0) };
 }
 
 impl<'a> Machine<'a> {
@@ -124,9 +125,10 @@ impl<'a> Machine<'a> {
         self.steps
     }
 
-    /// The bytes of the memory. It takes no memory.
+    /// The bytes of the memory; there is none where the module has no memory. It takes no memory.
     pub fn bytes(&self) -> &[u8]
-        ensures { result.now ≡ self.now.config.store.memory }
+        ensures value { result.now ≡ self.now.config.store.memory }
+        ensures none { self.now.source.memories ≡ [] → result.now ≡ [] }
     {
         self.state.memory.as_slice()
     }
