@@ -17,7 +17,7 @@ use Rattle.rich_text_laws.proofs.Whole as texts
 use Rattle.rich_typing.proofs.LoneModules.{module_never_both, lone_refused}
 use Rattle.rich_typing.specs.declared.notes.Note.{Note}
 use Rattle.rich_typing.specs.Derivations.{IsTyped}
-use Rattle.rich_typing.specs.Violations.{Violation, FirstViolation, in_body, not_built}
+use Rattle.rich_typing.specs.Violations.{FirstViolation, in_body, not_built}
 use Rattle.rw_program.specs.Programs.{Program}
 use Rattle.lowering_laws.proofs.Behaves.{lowered_ends}
 use Rattle.lowering_table.specs.declared.Pages.{Pages}

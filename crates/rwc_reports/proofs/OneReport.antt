@@ -12,7 +12,7 @@ use Rattle.rwc_reports.specs.Jobs.{Job, refusal_job, lines_job}
 use Rattle.rwc_reports.specs.Laws.{OneReport}
 use Rattle.rwc_reports.specs.Reports.{build_job, BinaryLeads, LinesLead, CommandReports, Reports}
 use Rattle.rwc_reports.specs.Sources.{FileLoads, FilesLead}
-use Rattle.rwc_reports.specs.Steps.{Refused, Onward}
+use Rattle.rwc_reports.specs.Steps.{Onward}
 use Rattle.rwc_reports.proofs.Executions.{one_program_job, one_execution_job}
 use Rattle.rwc_reports.proofs.OneAnswer.{one_load, one_program, one_binary, one_decoding}
 use Rattle.rwc_reports.proofs.Shows.{one_showing}

@@ -1,8 +1,6 @@
 -- The showing of a source has one job, and what is put is the canonical text.
-use Rattle.std.proofs.Common.{◌≡◌, ◌∙◌, inl, inr, ℕ, Bool, true, false, List, [], ◌∷◌, refl, ap, sym, Ok, Err}
+use Rattle.std.proofs.Common.{◌≡◌, ◌∙◌, inl, inr, ℕ, Bool, true, false, List, [], ◌∷◌, refl, ap, sym, Err}
 use Rattle.std.specs.Prelude.{◌==◌, if◌then◌else◌}
-use Rattle.std.specs.declared.result.Result.{Result}
-use Rattle.rw_types.specs.declared.modules.Module.{Module}
 use Rattle.rich_text.specs.Layout.{canonical_text}
 use Rattle.rw_io.specs.Files.{NamedFile}
 use Rattle.words.specs.Words.{Source}
@@ -15,7 +13,7 @@ use Rattle.rwc_reports.specs.Steps.{Refused, goes_on, stops, IsOneOf}
 use Rattle.rwc_reports.proofs.Causes.{load_status, text_status}
 use Rattle.rwc_reports.proofs.OneAnswer.{one_load, one_text}
 use Rattle.rwc_reports.proofs.SomeAnswer.{some_load, some_text}
-use Rattle.rwc_reports.proofs.Steps.{same_refused, not_both, one_then, some_then}
+use Rattle.rwc_reports.proofs.Steps.{same_refused, one_then, some_then}
 
 module _ (source : Source) where
   show_status : (told : List NamedFile) (job : Job) → ShowReports source told job → IsOneOf (0 ∷ 1 ∷ 3 ∷ []) job.status

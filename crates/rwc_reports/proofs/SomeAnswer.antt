@@ -25,7 +25,7 @@ use Rattle.rwc_reports.specs.Binaries.{ProgramLowers, ModuleEncodes, encoded, Pr
 use Rattle.rwc_reports.specs.Laws.{AreOfBytes}
 use Rattle.rwc_reports.specs.Sources.{max_file_length, FileLoads, loaded, missing, too_long, TextReads, spelled, faulty, ModuleChecks, typed, violated, SourceChecks, HasNoMain, ModulesLink, linked, no_main, SourcesLoad, SourcesCheck, SourcesLink, FilesLead}
 use Rattle.rwc_reports.specs.Steps.{Refused, Onward}
-use Rattle.rwc_reports.proofs.LonePrograms.{one_checked, leads_to_lone}
+use Rattle.rwc_reports.proofs.LonePrograms.{one_checked}
 use Rattle.rwc_reports.proofs.OneAnswer.{same_some, not_none}
 use Rattle.rwc_reports.proofs.Steps.{same_value, not_both, some_then, some_each}
 

@@ -12,7 +12,7 @@ use Rattle.rwc_reports.specs.Jobs.{Job, refusal_job, lines_job}
 use Rattle.rwc_reports.specs.Laws.{AreOfBytes, SomeReport}
 use Rattle.rwc_reports.specs.Reports.{build_job, words_job, BinaryLeads, LinesLead, CommandReports}
 use Rattle.rwc_reports.specs.Sources.{FileLoads, FilesLead}
-use Rattle.rwc_reports.specs.Steps.{Refused, Onward}
+use Rattle.rwc_reports.specs.Steps.{Onward}
 use Rattle.rwc_reports.proofs.Executions.{some_program_job, some_execution_job}
 use Rattle.rwc_reports.proofs.LonePrograms.{leads_to_lone}
 use Rattle.rwc_reports.proofs.Shows.{some_showing}

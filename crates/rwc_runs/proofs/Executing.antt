@@ -5,11 +5,11 @@ use Rattle.wasm_ast.specs.declared.modules.WModule.{WModule}
 use Rattle.wasm_execution.specs.Behaviour.{wasm}
 use Rattle.wasm_grammar.specs.Profile.{IsInProfile}
 use Rattle.wasm_typing.specs.Modules.{IsValid}
-use Rattle.rw_io.specs.States.{ShelfState, SinkState}
+use Rattle.rw_io.specs.States.{SinkState}
 use Rattle.rwc_acts.specs.declared.ending.Done.{Done}
 use Rattle.rwc_acts.specs.declared.ending.Stop.{Stop}
 use Rattle.rwc_acts.specs.declared.ending.Stop.TheVariants.{Refused as IsRefused, Unread, Unwritten, Memory}
-use Rattle.rwc_acts.specs.Stops.{IfStop, IfStopped, IsStep}
+use Rattle.rwc_acts.specs.Stops.{IfStopped, IsStep}
 use Rattle.rwc_reports.specs.Acts.{Outside}
 use Rattle.rwc_reports.specs.Endings.{KeepsTo, carries_out, unread, unbegun, whole}
 use Rattle.rwc_reports.specs.Binaries.{BinaryDecodes, decoded, malformed}

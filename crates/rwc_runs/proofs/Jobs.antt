@@ -1,12 +1,12 @@
 -- From what a machine's run answers and leaves to the job of its module's run, as far as that was carried out.
-use Rattle.std.proofs.Common.{◌≡◌, ◌∙◌, ◌⊎◌, ◌≤◌, ◌<◌, inl, inr, ℕ, ◌+◌, ◌-◌, List, [], ◌∷◌, ◌++◌, length, map, take, refl, ap, sym, subst, arith, append_assoc, string_bytes, Ok, Err, None, Some}
+use Rattle.std.proofs.Common.{◌≡◌, ◌∙◌, ◌≤◌, inl, inr, ℕ, ◌+◌, ◌-◌, List, [], ◌∷◌, ◌++◌, length, map, take, refl, ap, sym, subst, arith, append_assoc, Ok, Err}
 use Rattle.std.specs.Prelude.{codes}
 use Rattle.std.specs.Io.KnownBytes.{append_known}
 use Rattle.std.specs.Result.{IfOk}
 use Rattle.std.specs.declared.option.Option.{Option}
 use Rattle.std.specs.declared.result.Result.{Result}
 use Rattle.machine_runs.specs.Lines as machine
-use Rattle.machine_runs.specs.Runs.{stand_of, Comes, Runs, StopsBetween, StopsInLine, Stops}
+use Rattle.machine_runs.specs.Runs.{stand_of, Comes, StopsBetween, StopsInLine, Stops}
 use Rattle.machine_runs.specs.declared.answers.Outcome.{Outcome}
 use Rattle.machine_runs.specs.declared.answers.Outcome.TheVariants.{Ended, Spent as SpentAll}
 use Rattle.machine_runs.specs.declared.answers.RunError.{RunError}
@@ -34,15 +34,15 @@ use Rattle.rwc_acts.specs.declared.ending.Stop.TheVariants.{Refused as IsRefused
 use Rattle.rwc_acts.specs.Stops.{IfStop, IfStopped, done_status, stop_status, stop_line, status_of, line_of}
 use Rattle.rwc_acts.proofs.Endings.{after_acts-append, broken}
 use Rattle.rwc_reports.specs.Acts.{Act, put, Outside, after_act, after_acts, outside_of}
-use Rattle.rwc_reports.specs.Endings.{JobEnds, whole, unwritten, no_memory, no_memory_within, CarriesOut}
+use Rattle.rwc_reports.specs.Endings.{whole, no_memory, CarriesOut}
 use Rattle.rwc_reports.specs.Jobs.{Job}
 use Rattle.rwc_reports.specs.Lines.{write_fault_line}
 use Rattle.rwc_reports.specs.Runs.{RunReports, ended, spent, run_job, after_line, end_text, end_status, printed_line}
 use Rattle.rwc_reports.proofs.OneAnswer.{compare}
 use Rattle.rwc_reports.proofs.Runs.{later, some_run, wasm_stays}
-use Rattle.rwc_runs.specs.Executions.{last_text, done_at, done_as, PutsLast, LeavesOf, PutRose, RunsOut}
-use Rattle.rwc_runs.proofs.Fronts.{Begins, front, Halts, halts}
-use Rattle.rwc_runs.proofs.Puts.{put_number, puts, puts_of_lines, puts_append, after_puts, append_twice, outside_more, outside_puts}
+use Rattle.rwc_runs.specs.Executions.{last_text, done_as, PutsLast, LeavesOf, PutRose, RunsOut}
+use Rattle.rwc_runs.proofs.Fronts.{Begins, front, halts}
+use Rattle.rwc_runs.proofs.Puts.{put_number, puts, puts_append, after_puts, append_twice, outside_more, outside_puts}
 
 -- the acts of a run's job: its numbers, and then its last line
 acts_are : (printed last : List ℕ) (status : ℕ) → (run_job printed last status).acts ≡ puts printed ++ (put last ∷ [])

@@ -1,5 +1,5 @@
 -- What the commands that run a binary keep to, from what its execution answered.
-use Rattle.std.proofs.Common.{◌≡◌, ◌∙◌, inl, inr, ℕ, List, [], ◌∷◌, refl, ap, sym, subst, string_bytes, Ok, Err, Some}
+use Rattle.std.proofs.Common.{◌≡◌, ◌∙◌, inl, inr, ℕ, List, [], ◌∷◌, refl, ap, sym, subst, Ok, Err}
 use Rattle.std.specs.Prelude.{Vec}
 use Rattle.std.specs.declared.alloc.Global.{Global}
 use Rattle.std.specs.declared.option.Option.{Option}
@@ -11,7 +11,6 @@ use Rattle.rw_io.specs.States.{Holding, ShelfState, SinkState}
 use Rattle.rw_program.specs.Programs.{Program}
 use Rattle.wasm_ast.specs.declared.modules.WModule.{WModule}
 use Rattle.wasm_execution.specs.Behaviour.{wasm}
-use Rattle.wasm_grammar.specs.CanonicalModules.{module_bytes}
 use Rattle.words.specs.Words.{Source}
 use Rattle.rwc_acts.specs.declared.ending.Done.{Done}
 use Rattle.rwc_acts.specs.declared.ending.Done.TheVariants.{Finished, Trapped, Spent}

@@ -1,10 +1,9 @@
 -- From the lines that a source leads to to the job of showing it.
-use Rattle.std.proofs.Common.{◌≡◌, ℕ, List, ◌∷◌, refl, ap, sym, ◌∙◌, Ok, Err}
+use Rattle.std.proofs.Common.{◌≡◌, ℕ, List, refl, ap, sym, ◌∙◌, Ok, Err}
 use Rattle.std.specs.declared.result.Result.{Result}
 use Rattle.rw_io.specs.Files.{NamedFile}
 use Rattle.rw_io.specs.States.{ShelfState, SinkState}
 use Rattle.rw_types.specs.declared.modules.Module.{Module}
-use Rattle.rich_text.specs.Layout.{canonical_text}
 use Rattle.rich_writing.specs.Modules.{module_text}
 use Rattle.rich_writing_laws.proofs.Whole.{written_is_canonical}
 use Rattle.rich_text_writing_laws.proofs.Writing.{spelled_is_writable}

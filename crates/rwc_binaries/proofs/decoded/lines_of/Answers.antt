@@ -1,8 +1,5 @@
-use Rattle.std.proofs.Common.{◌≡◌, List, ℕ, refl, ap, sym, subst, Ok, Err, string_bytes}
-use Rattle.std.specs.declared.alloc.Global.{Global}
-use Rattle.std.specs.declared.string.String.{String}
+use Rattle.std.proofs.Common.{◌≡◌, List, ℕ, refl, ap, sym, subst, Ok, Err}
 use Rattle.std.specs.declared.result.Result.{Result}
-use Rattle.std.specs.Prelude.{Vec}
 use Rattle.wasm_ast.specs.declared.modules.WModule.{WModule}
 use Rattle.rwc_acts.specs.declared.ending.Stop.{Stop}
 use Rattle.rwc_acts.specs.declared.ending.Stop.TheVariants.{Refused as IsRefused, Unread, Unwritten, Memory}

@@ -1,4 +1,4 @@
-use Rattle.std.proofs.Common.{ℕ, List, ap, refl, subst, Err}
+use Rattle.std.proofs.Common.{ℕ, List, ap, subst, Err}
 use Rattle.std.specs.declared.result.Result.{Result}
 use Rattle.wasm_ast.specs.declared.modules.WModule.{WModule}
 use Rattle.wasm_module_checking.specs.Answers.{TellsFirst}

@@ -1,4 +1,4 @@
-use Rattle.std.proofs.Common.{ap, refl, Ok}
+use Rattle.std.proofs.Common.{ap, Ok}
 use Rattle.std.specs.declared.result.Result.{Result}
 use Rattle.wasm_ast.specs.declared.modules.WModule.{WModule}
 use Rattle.rwc_reports.specs.Executables.{valid}

@@ -1,4 +1,4 @@
-use Rattle.std.proofs.Common.{◌≡◌, ◌≤◌, ℕ, inl, inr, sym, subst, arith}
+use Rattle.std.proofs.Common.{◌≤◌, ℕ, inl, inr, subst, arith}
 use Rattle.machine_runs.specs.Runs.{Runs, Stops}
 use Rattle.rw_io.specs.Counts.{Rose}
 use Rattle.rw_io.specs.States.{SinkState, NoSinkCountFell}

@@ -1,4 +1,4 @@
-use Rattle.std.proofs.Common.{ℕ, sym, subst}
+use Rattle.std.proofs.Common.{ℕ, subst}
 use Rattle.rwc_shows.specs.Lines.{FirstLine}
 use Rattle.rwc_shows.proofs.FirstLines.{first_line, found_length, missed_length}
 use Rattle.rwc_shows.proofs.lines.line_length.Goals as goal

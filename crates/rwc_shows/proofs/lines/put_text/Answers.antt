@@ -1,5 +1,4 @@
-use Rattle.std.proofs.Common.{◌≡◌, ℕ, List, arith, sym, ◌∙◌, subst, ap, drop}
-use Rattle.rw_io.specs.States.{ShelfState, SinkState}
+use Rattle.std.proofs.Common.{ℕ, List, arith, sym, ◌∙◌, subst, ap}
 use Rattle.rwc_acts.specs.Stops.{StopsWithin}
 use Rattle.rwc_reports.specs.Acts.{put, outside_of, after_act}
 use Rattle.rwc_shows.proofs.Putting.{PutSoFar, one_more, line_broken, all_put, is_empty}

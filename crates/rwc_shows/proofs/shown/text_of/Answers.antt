@@ -1,5 +1,4 @@
 use Rattle.words.specs.Commands.{spelled_source}
-use Rattle.rwc_acts.specs.Stops.{IsStep}
 use Rattle.rwc_shows.proofs.Showing.{text_shows, stop_shows}
 use Rattle.rwc_shows.proofs.shown.text_of.Goals as goal
 
