@@ -6,7 +6,7 @@ use Rattle.std.specs.declared.result.Result.{Result}
 use Rattle.wasm_ast.specs.declared.modules.WModule.{WModule}
 use Rattle.wasm_encode.specs.Contents.{IsFirstTooLong}
 use Rattle.rw_types.specs.declared.modules.Module.{Module}
-use Rattle.rw_text.specs.Spells.{Spells}
+use Rattle.rich_text.specs.Texts.{Spells}
 use Rattle.rw_program.specs.Modules.{TypedModule}
 use Rattle.rw_program.specs.Programs.{Program}
 use Rattle.lowering_table.specs.Modules.{low_module}
@@ -18,7 +18,7 @@ use Rattle.rwc_reports.specs.Binaries.{ProgramLeads, ModuleEncodes, encoded, too
 use Rattle.rwc_reports.specs.Causes.{Cause, not_loaded, no_module, violated as in_violation, malformed as at_fault, not_linked, too_long as unencoded, RefusedSource}
 use Rattle.rwc_reports.specs.Jobs.{Job, refusal_job}
 use Rattle.rwc_reports.specs.Reports.{CommandReports}
-use Rattle.rwc_reports.specs.Sources.{FileLoads, loaded, missing, too_long, TextReads, spelled, not_spelled, ModuleChecks, typed, violated, SourceChecks, linked, no_main, SourcesLoad, SourcesLink, FilesLead}
+use Rattle.rwc_reports.specs.Sources.{FileLoads, loaded, missing, too_long, TextReads, spelled, faulty, text_refusal, ModuleChecks, typed, violated, SourceChecks, linked, no_main, SourcesLoad, SourcesLink, FilesLead}
 use Rattle.rwc_reports.specs.Steps.{Refused, goes_on, stops, EachLeads, IsOneOf}
 use Rattle.rwc_reports.proofs.Steps.{same_value, same_refused, not_both, first_refused}
 use Rattle.rwc_reports.proofs.Ways.{BuildComes, refused_files, refused_program, is_built, build_comes, DumpComes, refused_file, refused_binary, is_dumped, dump_comes}
@@ -30,7 +30,7 @@ load_status told file refused (too_long bytes is long e) = ap (λ (r : Refused).
 
 pub text_status : (kind : SourceKind) (file bytes : List ℕ) (refused : Refused) → TextReads kind file bytes (Err refused) → refused.status ≡ 1
 text_status kind file bytes refused (spelled m k is e) = absurd (not_both m refused (sym e))
-text_status kind file bytes refused (not_spelled k none e) = ap (λ (r : Refused). r.status) (same_refused refused _ e)
+text_status kind file bytes refused (faulty f k first e) = ap (λ (r : Refused). r.status) (same_refused refused (text_refusal file f) e)
 
 pub check_status : (file : List ℕ) (m : Module) (refused : Refused) → ModuleChecks file m (Err refused) → refused.status ≡ 1
 check_status file m refused (typed notes t e) = absurd (not_both _ refused (sym e))
@@ -71,10 +71,11 @@ module _ (told : List NamedFile) (lin unr : ℕ) (name : List ℕ) (source : Sou
 
   pub of_first : (all : List (Source × List ℕ)) (refused : Refused) → SourcesLoad told (source ∷ []) (Ok all) → (first : RefusedSource all refused) → SourceChecks first.at (Err refused) → Cause told command refused × (refused.status ≡ 1)
   of_first all refused load first (stops r (spelled m k is e) f) = absurd (not_both m r (sym e))
-  of_first all refused load first (stops r (not_spelled k none e) f) =
-      let status = ap (λ (q : Refused). q.status) (same_refused refused r f ∙ same_refused r _ e) in (no_module all load first none status, status)
+  of_first all refused load first (stops r (faulty found k fault e) f) =
+      let same = same_refused refused r f ∙ same_refused r (text_refusal first.at.0.file found) e in
+      (no_module all load first found fault same, ap (λ (q : Refused). q.status) same)
   of_first all refused load first (goes_on m text (typed notes t e)) = absurd (not_both _ refused (sym e))
-  of_first all refused load first (goes_on m (not_spelled k none f) (violated v is e)) = absurd (not_both m _ f)
+  of_first all refused load first (goes_on m (faulty found k fault f) (violated v is e)) = absurd (not_both m _ f)
   of_first all refused load first (goes_on m (spelled n k spells f) (violated v is e)) =
       let same = same_refused refused _ e in
       (in_violation all load first m v (subst (λ (x : Module). Spells first.at.1 x) (sym (same_value m n f)) spells) is same, ap (λ (q : Refused). q.status) same)

@@ -8,20 +8,18 @@ use Rattle.wasm_reading.specs.declared.fault.DecodeError.{DecodeError}
 use Rattle.wasm_reading_laws.specs.ModulesRead.{HasFirstFault}
 use Rattle.wasm_reading_laws.proofs.Faults.{never_both}
 use Rattle.rw_types.specs.declared.modules.Module.{Module}
-use Rattle.rw_text.specs.Spells.{Spells}
-use Rattle.rw_text.proofs.Whole.{one_module, is_lone_main}
+use Rattle.rich_text.specs.Texts.{Spells}
+use Rattle.rich_text_laws.proofs.Whole as texts
 use Rattle.rich_typing.proofs.LoneModules.{module_never_both, lone_refused}
 use Rattle.rich_typing.specs.declared.notes.Note.{Note}
 use Rattle.rich_typing.specs.Derivations.{IsTyped}
-use Rattle.rich_typing.specs.Violations.{FirstViolation}
+use Rattle.rich_typing.specs.Violations.{FirstViolation, in_body, not_built}
 use Rattle.rw_program.specs.Programs.{Program}
 use Rattle.lowering_laws.proofs.Behaves.{lowered_ends}
 use Rattle.lowering_table.specs.declared.Pages.{Pages}
 use Rattle.lowering_table.specs.Modules.{ArePages}
 use Rattle.lower.proofs.ShortContents.{low_has_short_contents}
 use Rattle.rw_io.specs.Files.{NamedFile, content_of}
-use Rattle.rw_types.specs.LoneMain.{IsLoneMain}
-use Rattle.words.specs.declared.SourceKind.{SourceKind}
 use Rattle.words.specs.Words.{Command, build, dump, Source, SpellsCommand}
 use Rattle.words.specs.Found.{Finds}
 use Rattle.rwc_reports.specs.Answers.{statuses_of}
@@ -30,7 +28,7 @@ use Rattle.rwc_reports.specs.Dumps.{dump_job}
 use Rattle.rwc_reports.specs.Jobs.{Job}
 use Rattle.rwc_reports.specs.Laws.{StatusesOfCommands, TypedIsBuilt, ModuleIsDumped, FaultIsRefused, IsDumped, DumpedIsModule, ProgramsEnd, NoneTooLong, NoTypeTold}
 use Rattle.rwc_reports.specs.Reports.{CommandReports}
-use Rattle.rwc_reports.specs.Sources.{max_file_length, FileLoads, loaded, missing, too_long, TextReads, spelled, not_spelled, typed, violated, SourceChecks, SourcesCheck, FilesLead}
+use Rattle.rwc_reports.specs.Sources.{max_file_length, FileLoads, loaded, missing, too_long, spelled, faulty, typed, violated, SourceChecks, SourcesCheck, FilesLead}
 use Rattle.rwc_reports.specs.Steps.{Refused, goes_on, stops, IsOneOf}
 use Rattle.rwc_reports.proofs.Causes.{load_status, of_first, of_file, of_binary, job_status, apart}
 use Rattle.rwc_reports.proofs.LonePrograms.{leads_to_lone, one_checked, links}
@@ -59,11 +57,11 @@ not_refused told file bytes refused there short load = not_both bytes refused (o
 
 text_passes : (bytes own : List ℕ) (source : Source) (m : Module) (notes : List (List Note)) (refused : Refused) → own ≡ bytes → Spells bytes m → IsTyped m notes → SourceChecks (source, own) (Err refused) → ⊥
 text_passes bytes own source m notes refused same spells derived (stops r (spelled n k is e) f) = not_both n r (sym e)
-text_passes bytes own source m notes refused same spells derived (stops r (not_spelled k none e) f) = none m (subst (λ (b : List ℕ). Spells b m) (sym same) spells)
+text_passes bytes own source m notes refused same spells derived (stops r (faulty found k first e) f) = texts.never_both own m found (subst (λ (b : List ℕ). Spells b m) (sym same) spells) first
 text_passes bytes own source m notes refused same spells derived (goes_on n text (typed others t e)) = not_both _ refused (sym e)
-text_passes bytes own source m notes refused same spells derived (goes_on n (not_spelled k none e) (violated v first f)) = not_both n _ e
+text_passes bytes own source m notes refused same spells derived (goes_on n (faulty found k fault e) (violated v first f)) = not_both n _ e
 text_passes bytes own source m notes refused same spells derived (goes_on n (spelled k is other e) (violated v first f)) =
-    let one : n ≡ m = same_value n k e ∙ one_module bytes k m (subst (λ (b : List ℕ). Spells b k) same other) spells in
+    let one : n ≡ m = same_value n k e ∙ texts.one_module bytes k m (subst (λ (b : List ℕ). Spells b k) same other) spells in
     module_never_both m notes v derived (subst (λ (x : Module). FirstViolation x v) one first)
 
 files_pass : (told : List NamedFile) (source : Source) (bytes : List ℕ) (m : Module) (notes : List (List Note)) (refused : Refused) → content_of told source.file ≡ Some bytes → length bytes ≤ max_file_length → Spells bytes m → IsTyped m notes → FilesLead told (source ∷ []) (Err refused) → ⊥
@@ -139,7 +137,8 @@ pub programs_end : ProgramsEnd
 programs_end told source program pages are leads = lowered_ends program pages (leads_to_lone told source program leads) are
 
 pub no_type_told : NoTypeTold
-no_type_told bytes m v spells first = let lone = lone_refused m v (is_lone_main bytes m spells) first in (lone.1, lone.2)
+no_type_told m v (in_body f at lone is place breaks) = let none = lone_refused m v lone (in_body f at lone is place breaks) in (none.1, none.2)
+no_type_told m v (not_built other place broken found expected) = (found, expected)
 
 -- the files of a build are refused with 1 or 3
 pub files_status : (told : List NamedFile) (source : Source) (refused : Refused) → FilesLead told (source ∷ []) (Err refused) → (refused.status ≡ 1) ⊎ (refused.status ≡ 3)
@@ -175,8 +174,3 @@ none_long words (Some (dump file)) told job found reports = of_status (job_statu
 
 pub none_too_long : NoneTooLong
 none_too_long words told job (command, found, reports) = none_long words command told job found reports
-
--- what a text of today spells is one function
-pub text_lone : (kind : SourceKind) (file bytes : List ℕ) (m : Module) → TextReads kind file bytes (Ok m) → IsLoneMain m
-text_lone kind file bytes m (spelled n k is e) = subst IsLoneMain (sym (same_value m n e)) (is_lone_main bytes n is)
-text_lone kind file bytes m (not_spelled k none e) = absurd (not_both m _ e)

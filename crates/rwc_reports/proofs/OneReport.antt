@@ -9,7 +9,8 @@ use Rattle.wasm_reading.specs.declared.fault.DecodeError.{DecodeError}
 use Rattle.wasm_reading_laws.proofs.Faults.{never_both, one_first_fault}
 use Rattle.wasm_reading_laws.proofs.Modules.{spelled_is_read}
 use Rattle.rw_types.specs.declared.modules.Module.{Module}
-use Rattle.rw_text.proofs.Whole.{one_module}
+use Rattle.rich_text.specs.Texts.{Found}
+use Rattle.rich_text_laws.proofs.Whole as texts
 use Rattle.rich_typing.specs.declared.notes.Note.{Note}
 use Rattle.rich_typing.specs.Violations.{Violation}
 use Rattle.rich_typing.proofs.LoneModules.{one_derivation, module_never_both, one_violation}
@@ -29,7 +30,7 @@ use Rattle.rwc_reports.specs.Laws.{OneReport}
 use Rattle.rwc_reports.specs.Lines.{too_many_section_line}
 use Rattle.rwc_reports.specs.Refusals.{violation_line}
 use Rattle.rwc_reports.specs.Reports.{build_job, BinaryLeads, LinesLead, CommandReports, Reports}
-use Rattle.rwc_reports.specs.Sources.{FileLoads, loaded, missing, too_long, TextReads, spelled, not_spelled, ModuleChecks, typed, violated, SourceChecks, HasNoMain, ModulesLink, linked, no_main, SourcesLoad, SourcesCheck, SourcesLink, FilesLead}
+use Rattle.rwc_reports.specs.Sources.{FileLoads, loaded, missing, too_long, TextReads, spelled, faulty, text_refusal, ModuleChecks, typed, violated, SourceChecks, HasNoMain, ModulesLink, linked, no_main, SourcesLoad, SourcesCheck, SourcesLink, FilesLead}
 use Rattle.rwc_reports.specs.Steps.{Refused, Onward}
 use Rattle.rwc_reports.proofs.Steps.{one_then, one_each}
 
@@ -50,11 +51,12 @@ one_load told file r s (too_long a is long x) (loaded b also le y) = absurd (ome
 one_load told file r s (too_long a is long x) (missing none y) = absurd (not_none a (sym is ∙ none))
 one_load told file r s (too_long a is long x) (too_long b also long' y) = x ∙ sym y
 
-one_text : (kind : SourceKind) (file bytes : List ℕ) (r s : Result Module Refused) → TextReads kind file bytes r → TextReads kind file bytes s → r ≡ s
-one_text kind file bytes r s (spelled m k is x) (spelled n l also y) = x ∙ ap (λ (c : Module). let o : Result Module Refused = Ok c in o) (one_module bytes m n is also) ∙ sym y
-one_text kind file bytes r s (spelled m k is x) (not_spelled l none y) = absurd (none m is)
-one_text kind file bytes r s (not_spelled k none x) (spelled n l also y) = absurd (none n also)
-one_text kind file bytes r s (not_spelled k none x) (not_spelled l also y) = x ∙ sym y
+pub one_text : (kind : SourceKind) (file bytes : List ℕ) (r s : Result Module Refused) → TextReads kind file bytes r → TextReads kind file bytes s → r ≡ s
+one_text kind file bytes r s (spelled m k is x) (spelled n l also y) = x ∙ ap (λ (c : Module). let o : Result Module Refused = Ok c in o) (texts.one_module bytes m n is also) ∙ sym y
+one_text kind file bytes r s (spelled m k is x) (faulty e l first y) = absurd (texts.never_both bytes m e is first)
+one_text kind file bytes r s (faulty e k first x) (spelled m l is y) = absurd (texts.never_both bytes m e is first)
+one_text kind file bytes r s (faulty e k first x) (faulty f l second y) =
+    x ∙ ap (λ (d : Found). let o : Result Module Refused = Err (text_refusal file d) in o) (texts.one_first_fault bytes e f first second) ∙ sym y
 
 one_check : (file : List ℕ) (m : Module) (r s : Result TypedModule Refused) → ModuleChecks file m r → ModuleChecks file m s → r ≡ s
 one_check file m r s (typed a t x) (typed b u y) = x ∙ ap (λ (n : List (List Note)). let o : Result TypedModule Refused = Ok (record { source = m; notes = n }) in o) (one_derivation m a b t u) ∙ sym y

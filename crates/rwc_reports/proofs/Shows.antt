@@ -1,38 +1,18 @@
 -- The showing of a source has one job, and what is put is the canonical text.
-use Rattle.std.proofs.Common.{◌≡◌, ◌∙◌, inl, inr, ℕ, Bool, true, false, List, [], ◌∷◌, refl, ap, sym, Ok, Err}
+use Rattle.std.proofs.Common.{◌≡◌, ◌∙◌, inl, inr, ℕ, Bool, true, false, List, [], ◌∷◌, refl, ap, sym, Err}
 use Rattle.std.specs.Prelude.{◌==◌, if◌then◌else◌}
-use Rattle.std.specs.declared.result.Result.{Result}
-use Rattle.rw_types.specs.declared.modules.Module.{Module}
 use Rattle.rich_text.specs.Layout.{canonical_text}
-use Rattle.rich_text.specs.Texts.{Found}
-use Rattle.rich_text_laws.proofs.Whole.{module_or_fault, never_both, one_first_fault, one_module}
 use Rattle.rw_io.specs.Files.{NamedFile}
-use Rattle.words.specs.declared.SourceKind.{SourceKind}
-use Rattle.words.specs.declared.SourceKind.TheVariants.{Rich}
 use Rattle.words.specs.Words.{Source}
 use Rattle.rwc_reports.specs.ExecutionLaws.{OneShow, ShownIsCanonical, joined}
 use Rattle.rwc_reports.specs.Jobs.{Job, refusal_job, lines_job}
-use Rattle.rwc_reports.specs.Shows.{WholeTextReads, spelled, faulty, text_refusal, before_lines, lines_of, shown_lines, ShownLeads, ShowReports}
-use Rattle.rwc_reports.specs.Sources.{FileLoads}
+use Rattle.rwc_reports.specs.Shows.{before_lines, lines_of, shown_lines, ShownLeads, ShowReports}
+use Rattle.rwc_reports.specs.Sources.{FileLoads, TextReads}
 use Rattle.rwc_reports.specs.Steps.{Refused, goes_on, stops, IsOneOf}
-use Rattle.rwc_reports.proofs.Causes.{load_status}
-use Rattle.rwc_reports.proofs.OneReport.{one_load}
-use Rattle.rwc_reports.proofs.SomeReport.{some_load}
-use Rattle.rwc_reports.proofs.Steps.{same_refused, not_both, one_then, some_then}
-
-one_text : (kind : SourceKind) (file bytes : List ℕ) (r s : Result Module Refused) → WholeTextReads kind file bytes r → WholeTextReads kind file bytes s → r ≡ s
-one_text kind file bytes r s (spelled m k is x) (spelled n l also y) = x ∙ ap (λ (c : Module). let o : Result Module Refused = Ok c in o) (one_module bytes m n is also) ∙ sym y
-one_text kind file bytes r s (spelled m k is x) (faulty e l first y) = absurd (never_both bytes m e is first)
-one_text kind file bytes r s (faulty e k first x) (spelled m l is y) = absurd (never_both bytes m e is first)
-one_text kind file bytes r s (faulty e k first x) (faulty f l second y) =
-    x ∙ ap (λ (d : Found). let o : Result Module Refused = Err (text_refusal file d) in o) (one_first_fault bytes e f first second) ∙ sym y
-
-some_text : (kind : SourceKind) (file bytes : List ℕ) → (r : Result Module Refused) × WholeTextReads kind file bytes r
-some_text Rich file bytes = elim (module_or_fault bytes) [ inl (m, is) ↦ (_, spelled m refl is refl) | inr (e, first) ↦ (_, faulty e refl first refl) ]
-
-text_status : (kind : SourceKind) (file bytes : List ℕ) (refused : Refused) → WholeTextReads kind file bytes (Err refused) → refused.status ≡ 1
-text_status kind file bytes refused (spelled m k is e) = absurd (not_both m refused (sym e))
-text_status kind file bytes refused (faulty f k first e) = ap (λ (q : Refused). q.status) (same_refused refused (text_refusal file f) e)
+use Rattle.rwc_reports.proofs.Causes.{load_status, text_status}
+use Rattle.rwc_reports.proofs.OneReport.{one_load, one_text}
+use Rattle.rwc_reports.proofs.SomeReport.{some_load, some_text}
+use Rattle.rwc_reports.proofs.Steps.{same_refused, one_then, some_then}
 
 module _ (source : Source) where
   show_status : (told : List NamedFile) (job : Job) → ShowReports source told job → IsOneOf (0 ∷ 1 ∷ 3 ∷ []) job.status
@@ -44,9 +24,9 @@ module _ (source : Source) where
 pub one_show : OneShow
 one_show source = record {
   some = λ told all. some_then refusal_job (ShownLeads told source) (λ m j. j ≡ lines_job (shown_lines m) 0)
-      (some_then (λ refused. Err refused) (FileLoads told source.file) (WholeTextReads source.kind source.file) (some_load told source.file) (λ bytes is. some_text source.kind source.file bytes)) (λ m is. (_, refl));
+      (some_then (λ refused. Err refused) (FileLoads told source.file) (TextReads source.kind source.file) (some_load told source.file) (λ bytes is. some_text source.kind source.file bytes)) (λ m is. (_, refl));
   one = λ told a b. one_then refusal_job (ShownLeads told source) (λ m j. j ≡ lines_job (shown_lines m) 0)
-      (λ r s. one_then (λ refused. Err refused) (FileLoads told source.file) (WholeTextReads source.kind source.file) (one_load told source.file) (λ bytes is. one_text source.kind source.file bytes) r s)
+      (λ r s. one_then (λ refused. Err refused) (FileLoads told source.file) (TextReads source.kind source.file) (one_load told source.file) (λ bytes is. one_text source.kind source.file bytes) r s)
       (λ m is c d p q. p ∙ sym q) a b;
   status = show_status source;
 }

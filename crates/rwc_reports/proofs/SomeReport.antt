@@ -8,7 +8,7 @@ use Rattle.wasm_grammar.specs.CanonicalModules.{HasShortContents}
 use Rattle.wasm_reading_laws.proofs.Faults.{module_or_fault}
 use Rattle.wasm_reading_values.specs.Exactness.{AreBytes}
 use Rattle.rw_types.specs.declared.modules.Module.{Module}
-use Rattle.rw_text_laws.proofs.Bodies.{module_or_none}
+use Rattle.rich_text_laws.proofs.Whole as texts
 use Rattle.rich_typing.proofs.LoneModules.{typed_or_refused}
 use Rattle.rw_program.specs.LonePrograms.{IsLoneProgram}
 use Rattle.rw_program.specs.Linking.{program_of}
@@ -28,7 +28,7 @@ use Rattle.rwc_reports.specs.Dumps.{module_lines}
 use Rattle.rwc_reports.specs.Jobs.{Job, refusal_job, lines_job}
 use Rattle.rwc_reports.specs.Laws.{AreOfBytes, SomeReport}
 use Rattle.rwc_reports.specs.Reports.{build_job, words_job, BinaryLeads, LinesLead, CommandReports}
-use Rattle.rwc_reports.specs.Sources.{max_file_length, FileLoads, loaded, missing, too_long, TextReads, spelled, not_spelled, ModuleChecks, typed, violated, SourceChecks, HasNoMain, ModulesLink, linked, no_main, SourcesLoad, SourcesCheck, SourcesLink, FilesLead}
+use Rattle.rwc_reports.specs.Sources.{max_file_length, FileLoads, loaded, missing, too_long, TextReads, spelled, faulty, ModuleChecks, typed, violated, SourceChecks, HasNoMain, ModulesLink, linked, no_main, SourcesLoad, SourcesCheck, SourcesLink, FilesLead}
 use Rattle.rwc_reports.specs.Steps.{Refused, Onward}
 use Rattle.rwc_reports.proofs.LonePrograms.{one_checked, leads_to_lone}
 use Rattle.rwc_reports.proofs.OneReport.{same_some, not_none}
@@ -49,8 +49,8 @@ some_load told file = of_content (content_of told file) refl
     of_content None is = (_, missing is refl)
     of_content (Some bytes) is = elim (less_or_not (length bytes) max_file_length) [ inl le ↦ (_, loaded bytes is le refl) | inr more ↦ (_, too_long bytes is more refl) ]
 
-some_text : (kind : SourceKind) (file bytes : List ℕ) → Answered (TextReads kind file bytes)
-some_text Rich file bytes = elim (module_or_none bytes) [ inl found ↦ (_, spelled found.0 refl found.1 refl) | inr none ↦ (_, not_spelled refl none refl) ]
+pub some_text : (kind : SourceKind) (file bytes : List ℕ) → Answered (TextReads kind file bytes)
+some_text Rich file bytes = elim (texts.module_or_fault bytes) [ inl m ↦ (_, spelled m.0 refl m.1 refl) | inr e ↦ (_, faulty e.0 refl e.1 refl) ]
 
 some_check : (file : List ℕ) (m : Module) → Answered (ModuleChecks file m)
 some_check file m = elim (typed_or_refused m) [ inl t ↦ (_, typed t.0 t.1 refl) | inr v ↦ (_, violated v.0 v.1 refl) ]

@@ -5,7 +5,8 @@ use Rattle.wasm_encode.specs.Contents.{IsFirstTooLong}
 use Rattle.wasm_reading.specs.declared.fault.DecodeError.{DecodeError}
 use Rattle.wasm_reading_laws.specs.ModulesRead.{HasFirstFault}
 use Rattle.rw_types.specs.declared.modules.Module.{Module}
-use Rattle.rw_text.specs.Spells.{Spells, SpellsNone}
+use Rattle.rich_text.specs.Texts.{Spells, Found}
+use Rattle.rich_text_laws.specs.Laws.{HasFirstFault as HasTextFault}
 use Rattle.rich_typing.specs.Violations.{Violation, FirstViolation}
 use Rattle.rw_program.specs.Modules.{TypedModule}
 use Rattle.rw_program.specs.Programs.{Program}
@@ -17,7 +18,7 @@ use Rattle.rwc_reports.specs.Binaries.{malformed_refusal}
 use Rattle.rwc_reports.specs.Endings.{Tells}
 use Rattle.rwc_reports.specs.Lines.{too_many_section_line}
 use Rattle.rwc_reports.specs.Refusals.{violation_line}
-use Rattle.rwc_reports.specs.Sources.{FileLoads, SourcesLoad, SourceChecks, SourcesCheck, SourcesLink, FilesLead}
+use Rattle.rwc_reports.specs.Sources.{text_refusal, FileLoads, SourcesLoad, SourceChecks, SourcesCheck, SourcesLink, FilesLead}
 use Rattle.rwc_reports.specs.Steps.{Refused, FirstRefused}
 
 -- the sources of a command
@@ -33,9 +34,9 @@ RefusedSource loaded refused = FirstRefused SourceChecks loaded refused
 pub data Cause (told : List NamedFile) (command : Command) (refused : Refused) : Type 0 where
   -- of its files the first that is refused is missing or too long
   not_loaded : refused.status ≡ 3 → FirstRefused (FileLoads told) (files_of command) refused → Cause told command refused
-  -- all its sources are loaded, and the text of the first that is refused spells no module
+  -- all its sources are loaded, and the text of the first that is refused has a first fault
   no_module : (loaded : List (Source × List ℕ)) → SourcesLoad told (sources_of command) (Ok loaded) → (first : RefusedSource loaded refused) →
-      SpellsNone first.at.1 → refused.status ≡ 1 → Cause told command refused
+      (found : Found) → HasTextFault first.at.1 found → refused ≡ text_refusal first.at.0.file found → Cause told command refused
   -- all its sources are loaded, and the module of the first that is refused has a first violation
   violated : (loaded : List (Source × List ℕ)) → SourcesLoad told (sources_of command) (Ok loaded) → (first : RefusedSource loaded refused) →
       (m : Module) (v : Violation) → Spells first.at.1 m → FirstViolation m v → refused ≡ record { status = 1; line = violation_line first.at.0.file v } → Cause told command refused

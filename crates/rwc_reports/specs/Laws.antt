@@ -9,7 +9,7 @@ use Rattle.wasm_reading.specs.declared.fault.DecodeError.{DecodeError}
 use Rattle.wasm_reading_laws.specs.ModulesRead.{HasFirstFault}
 use Rattle.wasm_reading_values.specs.Exactness.{AreBytes}
 use Rattle.rw_types.specs.declared.modules.Module.{Module}
-use Rattle.rw_text.specs.Spells.{Spells}
+use Rattle.rich_text.specs.Texts.{Spells}
 use Rattle.rich_typing.specs.declared.notes.Note.{Note}
 use Rattle.rich_typing.specs.Derivations.{IsTyped}
 use Rattle.rich_typing.specs.Violations.{Violation, FirstViolation}
@@ -86,6 +86,6 @@ ProgramsEnd = (told : List NamedFile) (source : Source) (program : Program) (pag
 abbrev pub NoneTooLong : Type 0
 NoneTooLong = (words : List (List ℕ)) (told : List NamedFile) (job : Job) → Reports words told job → (job.status ≢ 10) × (job.status ≢ 11)
 
--- and whose modules' first violations tell no type.
+-- and of any module a first violation tells no type.
 abbrev pub NoTypeTold : Type 0
-NoTypeTold = (bytes : List ℕ) (m : Module) (v : Violation) → Spells bytes m → FirstViolation m v → (v.found ≡ None) × (v.expected ≡ None)
+NoTypeTold = (m : Module) (v : Violation) → FirstViolation m v → (v.found ≡ None) × (v.expected ≡ None)

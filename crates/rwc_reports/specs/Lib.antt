@@ -1,5 +1,4 @@
 pub mod Lines
-pub mod TypeTexts
 pub mod Refusals
 pub mod Steps
 pub mod Acts

@@ -6,7 +6,7 @@ use Rattle.rich_typing.specs.declared.notes.Place.TheVariants.{FuncType, FuncAt,
 use Rattle.rich_typing.specs.declared.rules.Rule.{Rule}
 use Rattle.rich_typing.specs.declared.rules.Rule.TheVariants as rule
 use Rattle.rich_typing.specs.Violations.{Violation}
-use Rattle.rwc_reports.specs.TypeTexts.{type_text}
+use Rattle.rich_writing.specs.Types.{type_text}
 
 -- the names of the rules
 abbrev pub rule_name : Rule → List ℕ

@@ -5,7 +5,9 @@ use Rattle.std.specs.declared.option.Option.TheVariants.{None, Some}
 use Rattle.std.specs.declared.result.Result.{Result}
 use Rattle.std.specs.declared.result.Result.TheVariants.{Ok, Err}
 use Rattle.rw_types.specs.declared.modules.Module.{Module}
-use Rattle.rw_text.specs.Spells.{Spells, SpellsNone}
+use Rattle.rich_text.specs.Texts.{Spells, Found}
+use Rattle.rich_text.specs.Tokens.{Fault, BadUtf8, BadToken, TooDeep, NumberOut, BadForm, Unended}
+use Rattle.rich_text_laws.specs.Laws.{HasFirstFault}
 use Rattle.rich_typing.specs.declared.notes.Note.{Note}
 use Rattle.rich_typing.specs.Derivations.{IsTyped}
 use Rattle.rich_typing.specs.Violations.{Violation, FirstViolation}
@@ -30,10 +32,23 @@ pub data FileLoads (told : List NamedFile) (file : List ℕ) (r : Result (List �
   missing : content_of told file ≡ None → r ≡ Err (record { status = 3; line = missing_line file }) → FileLoads told file r
   too_long : (content : List ℕ) → content_of told file ≡ Some content → max_file_length < length content → r ≡ Err (record { status = 3; line = too_long_line file }) → FileLoads told file r
 
--- the module that a text of this language spells, or the refusal of one that spells none
+-- the names of the faults of a text
+abbrev pub text_fault_name : Fault → List ℕ
+text_fault_name BadUtf8 = codes "BadUtf8"
+text_fault_name BadToken = codes "BadToken"
+text_fault_name TooDeep = codes "TooDeep"
+text_fault_name NumberOut = codes "NumberOut"
+text_fault_name BadForm = codes "BadForm"
+text_fault_name Unended = codes "Unended"
+
+-- the refusal of a text with this first fault
+abbrev pub text_refusal : List ℕ → Found → Refused
+text_refusal file found = record { status = 1; line = text_line file found.at.line found.at.column (text_fault_name found.fault) }
+
+-- the module that a text of this language spells, or the refusal by its first fault
 pub data TextReads (kind : SourceKind) (file bytes : List ℕ) (r : Result Module Refused) : Type 0 where
   spelled : (m : Module) → kind ≡ Rich → Spells bytes m → r ≡ Ok m → TextReads kind file bytes r
-  not_spelled : kind ≡ Rich → SpellsNone bytes → r ≡ Err (record { status = 1; line = text_line file 1 1 (codes "NotYetBuilt") }) → TextReads kind file bytes r
+  faulty : (found : Found) → kind ≡ Rich → HasFirstFault bytes found → r ≡ Err (text_refusal file found) → TextReads kind file bytes r
 
 -- a module with the notes of its derivation, or the refusal by its first violation
 pub data ModuleChecks (file : List ℕ) (m : Module) (r : Result TypedModule Refused) : Type 0 where

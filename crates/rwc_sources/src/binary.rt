@@ -1,6 +1,5 @@
 // From a source file to the bytes of a binary, a step after another.
 ghost use Rattle.std.specs.Prelude.{◌≡◌, List, [], ◌∷◌, IfOk, Some};
-ghost use Rattle.rw_types.specs.LoneMain.{IsLoneMain};
 ghost use Rattle.rw_program.specs.Linking.{program_of};
 ghost use Rattle.lowering_table.specs.Modules.{ArePages};
 ghost use Rattle.wasm_grammar.specs.Nesting.{ModuleNestsAtMost, nesting_limit};
@@ -8,7 +7,7 @@ ghost use Rattle.words.specs.Commands.{spelled_source};
 ghost use Rattle.words.specs.Words.{IsSourceNamed};
 ghost use Rattle.rwc_reports.specs.Binaries.{ProgramLowers, ModuleEncodes};
 ghost use Rattle.rwc_reports.specs.Reports.{BinaryLeads};
-ghost use Rattle.rwc_reports.specs.Sources.{TextReads, ModuleChecks};
+ghost use Rattle.rwc_reports.specs.Sources.{ModuleChecks};
 ghost use Rattle.rwc_acts.specs.Kept.{LoadsTo};
 ghost use Rattle.rwc_acts.specs.Stops.{IsStep, bytes_of};
 
@@ -17,15 +16,15 @@ use rw_check::{CheckError, Checked, check};
 use rw_io::Shelf;
 use rw_link::{LinkError, link};
 use rw_program::Linked;
-use rw_text::{TextFault, read};
 use rw_types::{List, Module, Name};
 use rwc_acts::{Stop, load_file};
 use rwc_lines::lines;
 use rwc_refusals::refused;
+use rwc_texts::read_source;
 use std::alloc::{AllocError, Global};
 use wasm_ast::WModule;
 use wasm_encode::{EncodeError, encode};
-use words::{SourceFile, SourceKind};
+use words::SourceFile;
 
 /// The binary of a source file, for so many pages.
 pub fn compile<S: Shelf>(
@@ -47,34 +46,8 @@ pub fn compile<S: Shelf>(
     encode_module(alloc, &lowered)
 }
 
-// The module that the text of a source spells.
-fn read_source(alloc: Global, source: &SourceFile<'_>, bytes: &[u8]) -> Result<Module, Stop>
-    ensures { IsStep (λ m. m) (TextReads source.now.kind source.now.file.now bytes.now) result }
-{
-    match source.kind {
-        SourceKind::Rich => read_rich(alloc, source.file, bytes),
-    }
-}
-
-// The module that a Rich text spells.
-fn read_rich(alloc: Global, file: &str, bytes: &[u8]) -> Result<Module, Stop>
-    ensures { IsStep (λ m. m) (TextReads SourceKind.Rich file.now bytes.now) result }
-{
-    match read(alloc, bytes) {
-        Ok(module) => Ok(module),
-        Err(error) => match error.fault {
-            TextFault::NotYetBuilt => {
-                let line = lines::text(alloc, file, error.line, error.column, "NotYetBuilt");
-                Err(Stop::refused(1, line))
-            }
-            TextFault::Memory => Err(Stop::Memory),
-        },
-    }
-}
-
 // A module that is well typed.
 fn check_module(alloc: Global, file: &str, module: Module) -> Result<Checked, Stop>
-    requires { IsLoneMain «module» }
     ensures { IsStep (λ checked. checked) (ModuleChecks file.now «module») result }
 {
     match check(alloc, module) {

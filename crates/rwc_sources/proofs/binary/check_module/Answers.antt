@@ -2,7 +2,6 @@
 use Rattle.std.proofs.Common.{◌≡◌, List, ℕ, ap, sym, ◌∙◌, Ok, Err, None}
 use Rattle.std.specs.Prelude.{codes}
 use Rattle.rich_typing.specs.Violations.{Violation, FirstViolation}
-use Rattle.rich_typing.proofs.LoneModules.{lone_refused}
 use Rattle.rw_program.specs.Modules.{TypedModule}
 use Rattle.rw_types.specs.declared.modules.Module.{Module}
 use Rattle.rw_types.specs.declared.types.Ty.{Ty}
@@ -30,7 +29,7 @@ returns-in-Ok c =
 pub returns-in-Err-Refused : goal.returns-in-Err-Refused
 returns-in-Err-Refused c =
     let first = rw c.in-Err-Refused.field-0-is at c.in-Err-Refused.ensures.refused in
-    let none = lone_refused c.args.«module» _ c.requires first in
+    let none = rw c.in-Err-Refused.field-0-is at c.in-Err-Refused.ensures.untyped in
     let file = c.args.file.now in
     refused_step (λ checked. checked) (ModuleChecks file c.args.«module») 1 c.refused.result c.refused-in-Err-Refused.result _ c.refused-in-Err-Refused.ensures c.refused.ensures
-    (untold file c.args.«module» _ first none.1 none.2)
+    (untold file c.args.«module» _ first none.0 none.1)

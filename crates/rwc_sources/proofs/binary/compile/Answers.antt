@@ -7,7 +7,6 @@ use Rattle.words.specs.Commands.{spelled_source}
 use Rattle.rwc_acts.specs.declared.ending.Stop.TheVariants.{Memory}
 use Rattle.rwc_acts.proofs.Loading.{no_memory, step_stopped, last_step, load_stopped, hands_on}
 use Rattle.rwc_reports.proofs.Causes.{text_status, check_status, encode_status}
-use Rattle.rwc_reports.proofs.CommandLaws.{text_lone}
 use Rattle.rwc_reports.proofs.Steps.{not_both}
 use Rattle.rwc_reports.proofs.OneFile.{stopped_load, stopped_text, stopped_check, goes_to}
 use Rattle.rwc_reports.specs.Binaries.{ProgramLowers, ModuleEncodes}
@@ -63,6 +62,3 @@ returns g c =
     (subst (λ (b : List ℕ). FileLoads told source.file (Ok b)) (sym c.deref.ensures.value) (c.in_ok-text.ensures.loads.leads told e)) c.in_ok-module.ensures c.in_ok-checked.ensures c.in_ok-program.ensures
     (goes_on c.in_ok-lowered.lowered c.in_ok-lowered.ensures.lowers encodes))
     (λ refused encodes. inr (inr (inl (encode_status c.in_ok-lowered.lowered refused encodes))))
-
-pub check_module-requires : goal.check_module-requires
-check_module-requires g c = text_lone _ _ _ _ c.in_ok-module.ensures

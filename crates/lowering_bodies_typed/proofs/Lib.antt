@@ -1,0 +1,4 @@
+pub mod Entered
+pub mod Alone
+pub mod Lists
+pub mod Bodies

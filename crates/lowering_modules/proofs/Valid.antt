@@ -1,0 +1,11 @@
+-- A lowered module is valid.
+use Rattle.lowering_modules.specs.Laws.{LowModuleIsValid}
+use Rattle.lowering_modules.proofs.Codes.{codes_typed}
+use Rattle.lowering_modules.proofs.Fields.{before_codes, behind_codes}
+
+pub module_is_valid : LowModuleIsValid
+module_is_valid codes_of p pages typed types bodies are allocators = record {
+  before = before_codes codes_of p pages are;
+  codes = codes_typed codes_of p pages typed types bodies allocators;
+  behind = behind_codes codes_of p pages;
+}

@@ -1,0 +1,3 @@
+pub mod Types
+pub mod Modules
+pub mod Laws

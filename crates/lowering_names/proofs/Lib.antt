@@ -1,0 +1,4 @@
+pub mod Sizes
+pub mod Notes
+pub mod Places
+pub mod Names

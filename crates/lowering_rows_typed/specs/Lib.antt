@@ -1,0 +1,4 @@
+pub mod Contexts
+pub mod Names
+pub mod Lists
+pub mod Laws

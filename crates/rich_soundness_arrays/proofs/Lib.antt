@@ -1,0 +1,5 @@
+pub mod Elements
+pub mod Making
+pub mod Reading
+pub mod Writing
+pub mod Arrays

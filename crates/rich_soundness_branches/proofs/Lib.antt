@@ -1,0 +1,4 @@
+pub mod Unr
+pub mod Landing
+pub mod Giving
+pub mod Branches

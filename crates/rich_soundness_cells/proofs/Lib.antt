@@ -1,0 +1,4 @@
+pub mod Live
+pub mod Stores
+pub mod Made
+pub mod Opened

@@ -1,0 +1,3 @@
+pub mod Raised
+pub mod Entered
+pub mod Locations

@@ -1,0 +1,2 @@
+mod Demanded
+mod Scoped

@@ -1,0 +1,2 @@
+mod SlotsMade
+mod Fronts

@@ -1,4 +1,0 @@
-pub mod Decisions
-pub mod Numbers
-pub mod Tokens
-pub mod Bodies
