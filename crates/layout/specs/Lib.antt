@@ -1,4 +1,5 @@
 pub mod Bodies
+pub mod Calls
 pub mod Cells
 pub mod Frames
 pub mod Limits

@@ -3,6 +3,8 @@ use Rattle.std.specs.Prelude.{ℕ, suc, ◌+◌, max, map, nat_lt, List, [], ◌
 use Rattle.rw_program.specs.declared.linked.LinkedFunc.{LinkedFunc}
 use Rattle.rw_program.specs.declared.linked.LinkedGlobal.{LinkedGlobal}
 use Rattle.rw_program.specs.Programs.{Program}
+use Rattle.layout.specs.Bodies.{text_order}
+use Rattle.layout.specs.Calls.{greatest_indirect}
 use Rattle.layout.specs.Frames.{function_frame, global_words, result_words, start_frame}
 
 -- Wasm functions before the linked ones: the print, and the three of the allocators
@@ -17,10 +19,14 @@ globals_before = 2
 abbrev pub function_count : Program → ℕ
 function_count p = functions_before + length p.funcs + 1
 
--- the greatest number of result words of a function
+-- the greatest number of words that a function gives, or that a call through a type in its body gives
+abbrev pub handed_words : LinkedFunc → ℕ
+handed_words f = max (result_words f) (greatest_indirect (text_order f.body) f.notes)
+
+-- the greatest of these over all functions
 abbrev pub greatest_result : List LinkedFunc → ℕ
 greatest_result [] = 0
-greatest_result (f ∷ fs) = max (result_words f) (greatest_result fs)
+greatest_result (f ∷ fs) = max (handed_words f) (greatest_result fs)
 
 -- the words of these globals together
 abbrev pub globals_words : List LinkedGlobal → ℕ

@@ -4,7 +4,8 @@
 
 ghost use Rattle.layout.specs.Worked.{WorkedLayouts};
 
-/// Rows: where slots begin, the parts of a frame, frames of 10,000 words and of one more, and counts at a limit and past it.
+/// Rows: where slots begin, the parts of a frame, frames of 10,000 words and of one more, the globals of a program whose one call through
+/// a type gives more words than its functions do, and counts at a limit and past it.
 pub fn worked_layouts()
     ensures { WorkedLayouts }
 {}

@@ -11,13 +11,14 @@ use Rattle.rich_types.specs.Sizes.{list_greatest, size_under}
 use Rattle.rich_typing.specs.declared.notes.Note.{Note}
 use Rattle.rw_program.specs.declared.linked.LinkedGlobal.{LinkedGlobal}
 use Rattle.layout.specs.Bodies.{nested_count, row_count}
+use Rattle.layout.specs.Calls.{code_results, top_of}
 use Rattle.layout.specs.Cells.{slot_offsets}
 use Rattle.layout.specs.Frames.{end_words, global_words, taken_words}
 use Rattle.layout.specs.Limits.{functions_before}
 use Rattle.lowering_rows.specs.Moves.{fetches, gets, gives, loads, moves, stores}
 use Rattle.lowering_rows.specs.Surroundings.{Surroundings, allocator, called_results, first_global, first_result, first_scratch, free_function, global_place, global_size, in_function, in_initialiser, local_place, operand_place, second_scratch}
 use Rattle.lowering_rows.specs.Labels.{Label, case_label, label_height, label_index, plain_label}
-use Rattle.lowering_rows.specs.Taken.{body_words, case_words, code_results, deepest, each_size, element_words, is_linear_reference, local_size, scope_at, second, slot_offset, slot_value_words, top_height, top_of, words_under_top}
+use Rattle.lowering_rows.specs.Taken.{body_words, case_words, deepest, each_size, element_words, is_linear_reference, local_size, scope_at, second, slot_offset, slot_value_words, top_height, words_under_top}
 use Rattle.lowering_rows.specs.Cells.{deepest_place, makes_cell, store_slots}
 use Rattle.lowering_rows.specs.Arrays.{fill_elements, find_element, index_within, store_element}
 use Rattle.lowering_rows.specs.Plain.{branches, plain_row}

@@ -1,5 +1,5 @@
 -- The codes of a lowered module are typed.
-use Rattle.std.proofs.Common.{◌≡◌, ◌∙◌, ℕ, zero, suc, ◌+◌, List, [], ◌∷◌, ◌++◌, Some, length, map, ◌⊎◌, inl, inr, refl, ap, sym, subst, arith}
+use Rattle.std.proofs.Common.{◌≡◌, ◌≤◌, ◌∙◌, ℕ, zero, suc, ◌+◌, List, [], ◌∷◌, ◌++◌, Some, length, map, ◌⊎◌, inl, inr, refl, ap, sym, subst, arith}
 use Rattle.std.specs.Prelude.{slice_get}
 use Rattle.wasm_ast.specs.declared.types.FuncType.{FuncType}
 use Rattle.wasm_ast.specs.declared.modules.Code.{Code}
@@ -20,6 +20,8 @@ use Rattle.rw_program.specs.declared.linked.LinkedGlobal.{LinkedGlobal}
 use Rattle.rw_program.specs.Programs.{Program}
 use Rattle.rich_linking.specs.TypedPrograms.{AreTypedGlobals, IsTypedProgram, linked_frame, types_of_functions, types_of_globals}
 use Rattle.layout.specs.Bodies.{nested, text_order}
+use Rattle.layout.specs.Calls.{greatest_indirect, indirect_results}
+use Rattle.layout.specs.Limits.{greatest_result}
 use Rattle.lowering_table.specs.declared.Pages.{Pages}
 use Rattle.lowering_table.specs.Allocators.{Allocators}
 use Rattle.lowering_table.specs.TypeUses.{type_index}
@@ -33,7 +35,7 @@ use Rattle.lowering_names.specs.Placed.{HasFormedTypes, IsListed}
 use Rattle.lowering_bodies_typed.specs.Allowed.{AreAllowed, AreInitialisersAllowed}
 use Rattle.lowering_bodies_typed.proofs.Bodies.{functions_typed, starts_typed}
 use Rattle.lowering_modules.specs.Types.{called_type, called_types, function_type, index_of_words, module_types}
-use Rattle.lowering_modules.specs.Laws.{AreLowerable, AreTypedAllocators, HasLowerableBodies, HasResults}
+use Rattle.lowering_modules.specs.Laws.{AreListed, AreTypedAllocators, AreWithoutCells, HasBodiesWithoutCells}
 use Rattle.lowering_modules.proofs.Contexts.{M, function_context, start_context}
 use Rattle.lowering_modules.proofs.Types.{Stands, alloc_stands, call_stands, early, function_stands, later, map_found, print_stands, start_stands}
 
@@ -99,6 +101,16 @@ module _ (f : Frame) (n : ℕ) (owner : f.owner ≡ OfGlobal n) where
         ∙ ap (λ (l : List FuncType). l ++ called_types (texts arms) outer) (none_called is x)
         ∙ in_arms arms xs
 
+both_none : (xs ys : List FuncType) → xs ++ ys ≡ [] → (xs ≡ []) × (ys ≡ [])
+both_none [] ys e = (refl, e)
+both_none (x ∷ xs) ys e = cc
+
+-- what calls through types give in a function's body is no more than the greatest
+call_known : (fs : List LinkedFunc) (n : ℕ) (f : LinkedFunc) → slice_get fs n ≡ Some f → greatest_indirect (text_order f.body) f.notes ≤ greatest_result fs
+call_known [] n f e = cc
+call_known (g ∷ fs) zero f e = let same : g ≡ f = cc in omega (arith, ap (λ (h : LinkedFunc). greatest_indirect (text_order h.body) h.notes) same)
+call_known (g ∷ fs) (suc n) f e = omega (arith, call_known fs n f e)
+
 module _ (codes_of : Allocators) (p : Program) (pages : Pages) where
   -- in surroundings of the program
   abbrev around : Places → Surroundings
@@ -108,17 +120,35 @@ module _ (codes_of : Allocators) (p : Program) (pages : Pages) where
     abbrev C : Context
     C = body_context (context_of (M codes_of p pages)) ty code
 
-    listed : (i : Instr) (note : Note) → ((k : ℕ) (t : FuncType) → slice_get (called_type i note) k ≡ Some t → Stands p t) → HasResults p i note → IsListed (around places) C i note
+    -- of each call through a type, where it stands among those that are listed and gives no more than the greatest
+    listed : (i : Instr) (note : Note) → ((k : ℕ) (t : FuncType) → slice_get (called_type i note) k ≡ Some t → Stands p t) → indirect_results i note ≤ greatest_result p.funcs → IsListed (around places) C i note
     listed CallIndirect note all h = (omega (arith, h), all 0 _ refl)
     listed _ note all h = tt
 
-    allowed : (is : List Instr) (notes : List Note) → ((k : ℕ) (t : FuncType) → slice_get (called_types is notes) k ≡ Some t → Stands p t) → AreLowerable p is notes → AreAllowed (around places) C is notes
+    all_listed : (is : List Instr) (notes : List Note) → ((k : ℕ) (t : FuncType) → slice_get (called_types is notes) k ≡ Some t → Stands p t) → greatest_indirect is notes ≤ greatest_result p.funcs → AreListed (around places) C is notes
+    all_listed [] notes all h = tt
+    all_listed (i ∷ is) [] all h = tt
+    all_listed (i ∷ is) (note ∷ notes) all h = (
+      listed i note (λ k t e. all k t (early (called_type i note) (called_types is notes) k t e)) (omega (arith, h)),
+      all_listed is notes (λ k t e. all (length (called_type i note) + k) t (later (called_type i note) (called_types is notes) k ∙ e)) (omega (arith, h)),
+    )
+
+    -- where nothing is called through a type
+    not_listed : (i : Instr) (note : Note) → called_type i note ≡ [] → IsListed (around places) C i note
+    not_listed CallIndirect note e = cc
+    not_listed _ note e = tt
+
+    none_listed : (is : List Instr) (notes : List Note) → called_types is notes ≡ [] → AreListed (around places) C is notes
+    none_listed [] notes e = tt
+    none_listed (i ∷ is) [] e = tt
+    none_listed (i ∷ is) (note ∷ notes) e =
+        let parts = both_none (called_type i note) (called_types is notes) e in
+        (not_listed i note parts.0, none_listed is notes parts.1)
+
+    allowed : (is : List Instr) (notes : List Note) → AreListed (around places) C is notes → AreWithoutCells is → AreAllowed (around places) C is notes
     allowed [] notes all h = tt
     allowed (i ∷ is) [] all h = tt
-    allowed (i ∷ is) (note ∷ notes) all h = (
-      (listed i note (λ k t e. all k t (early (called_type i note) (called_types is notes) k t e)) h.0.0, h.0.1),
-      allowed is notes (λ k t e. all (length (called_type i note) + k) t (later (called_type i note) (called_types is notes) k ∙ e)) h.1,
-    )
+    allowed (i ∷ is) (note ∷ notes) all h = ((all.0, h.0), allowed is notes all.1 h.1)
 
   -- the body of a function, from that of its number
   by_number : (k n : ℕ) (ty : FuncType) (code : Code) → slice_get (M codes_of p pages).funcs k ≡ Some n → slice_get (M codes_of p pages).types n ≡ Some ty → slice_get (M codes_of p pages).codes k ≡ Some code →
@@ -129,6 +159,13 @@ module _ (codes_of : Allocators) (p : Program) (pages : Pages) where
       let same_code = same_some code' code (sym has.there ∙ there) in
       let under : body_context (context_of (M codes_of p pages)) ty code ≡ D = sym (has.context ∙ (λ i. body_context (context_of (M codes_of p pages)) (same_type i) (same_code i))) in
       subst (λ (E : Context). IsTypedBody E code'.body) under (subst (λ (c : Code). IsTypedBody (body_context (context_of (M codes_of p pages)) ty code) c.body) (sym same_code) h)
+
+  -- calls through types in the body of a function are listed
+  pub function_listed : (n : ℕ) (g : LinkedFunc) → slice_get p.funcs n ≡ Some g →
+      AreListed (of_function p (index_of_words p) g) (body_context (context_of (M codes_of p pages)) (function_type g) (function_code p (index_of_words p) g)) (text_order g.body) g.notes
+  function_listed n g e =
+      let s = of_function p (index_of_words p) g in
+      all_listed (function_type g) (function_code p (index_of_words p) g) s.places (text_order g.body) g.notes (λ k t there. call_stands p n k g t e there) (call_known p.funcs n g e)
 
   -- what stands behind the linked functions is the exported main alone
   pub tail_cases : {A : Type 0} (h : LinkedFunc → A) (fs : List LinkedFunc) (z y : A) (n : ℕ) → slice_get (map h fs ++ z ∷ []) n ≡ Some y → ((g : LinkedFunc) × (slice_get fs n ≡ Some g)) ⊎ (n ≡ length fs)
@@ -144,28 +181,26 @@ module _ (codes_of : Allocators) (p : Program) (pages : Pages) where
   at_last h [] z = refl
   at_last h (f ∷ fs) z = at_last h fs z
 
-  module _ (typed : IsTypedProgram p) (types : HasFormedTypes p) (bodies : HasLowerableBodies p) (allocators : AreTypedAllocators (context_of (M codes_of p pages)) codes_of) where
+  module _ (typed : IsTypedProgram p) (types : HasFormedTypes p) (bodies : HasBodiesWithoutCells p) (allocators : AreTypedAllocators (context_of (M codes_of p pages)) codes_of) where
     function_body_typed : (n : ℕ) (g : LinkedFunc) → slice_get p.funcs n ≡ Some g →
         IsTypedBody (body_context (context_of (M codes_of p pages)) (function_type g) (function_code p (index_of_words p) g)) (function_code p (index_of_words p) g).body
     function_body_typed n g e =
         let code = function_code p (index_of_words p) g in
         let s = of_function p (index_of_words p) g in
         functions_typed p (index_of_words p) n g (body_context (context_of (M codes_of p pages)) (function_type g) code) typed types e (function_context codes_of p pages g) refl
-        (allowed (function_type g) code s.places (text_order g.body) g.notes (λ k t there. call_stands p n k g t e there) (bodies.functions n g e))
+        (allowed (function_type g) code s.places (text_order g.body) g.notes (function_listed n g e) (bodies.functions n g e))
 
-    initialisers_allowed : (gs : List LinkedGlobal) (n : ℕ) → AreTypedGlobals (types_of_functions p.funcs) (types_of_globals p.globals) n gs → ((m : ℕ) (g : LinkedGlobal) → slice_get gs m ≡ Some g → AreLowerable p (text_order g.body) g.notes) →
+    initialisers_allowed : (gs : List LinkedGlobal) (n : ℕ) → AreTypedGlobals (types_of_functions p.funcs) (types_of_globals p.globals) n gs → ((m : ℕ) (g : LinkedGlobal) → slice_get gs m ≡ Some g → AreWithoutCells (text_order g.body)) →
         AreInitialisersAllowed (in_initialiser p (index_of_words p)) (body_context (context_of (M codes_of p pages)) start_type (start_code p (index_of_words p))) gs
     initialisers_allowed [] n x h = tt
     initialisers_allowed (g ∷ gs) n x h =
         let s = in_initialiser p (index_of_words p) in
+        let code = start_code p (index_of_words p) in
         let frame = linked_frame (types_of_functions p.funcs) (types_of_globals p.globals) [] (OfGlobal n) in
         let none = none_called frame n refl g.body x.0 in (
-          allowed start_type (start_code p (index_of_words p)) s.places (text_order g.body) g.notes (λ k t there. nothing k t (sym (ap (λ (l : List FuncType). slice_get l k) none) ∙ there)) (h 0 g refl),
+          allowed start_type code s.places (text_order g.body) g.notes (none_listed start_type code s.places (text_order g.body) g.notes none) (h 0 g refl),
           initialisers_allowed gs (suc n) x.1 (λ m k e. h (suc m) k e),
         )
-      where
-        nothing : (k : ℕ) (t : FuncType) → slice_get [] k ≡ Some t → Stands p t
-        nothing k t e = cc
 
     start_body_typed : IsTypedBody (body_context (context_of (M codes_of p pages)) start_type (start_code p (index_of_words p))) (start_code p (index_of_words p)).body
     start_body_typed =

@@ -1,6 +1,6 @@
--- A lowered module is valid.
-use Rattle.lowering_modules.specs.Laws.{LowModuleIsValid}
-use Rattle.lowering_modules.proofs.Codes.{codes_typed}
+-- A lowered module is valid, and calls through types are listed.
+use Rattle.lowering_modules.specs.Laws.{CallsAreListed, LowModuleIsValid}
+use Rattle.lowering_modules.proofs.Codes.{codes_typed, function_listed}
 use Rattle.lowering_modules.proofs.Fields.{before_codes, behind_codes}
 
 pub module_is_valid : LowModuleIsValid
@@ -9,3 +9,6 @@ module_is_valid codes_of p pages typed types bodies are allocators = record {
   codes = codes_typed codes_of p pages typed types bodies allocators;
   behind = behind_codes codes_of p pages;
 }
+
+pub calls_are_listed : CallsAreListed
+calls_are_listed codes_of p pages n f e = function_listed codes_of p pages n f e

@@ -38,10 +38,11 @@ use Rattle.rich_rules_formed.proofs.Lists.{back, front}
 use Rattle.rw_program.specs.declared.linked.LinkedFunc.{LinkedFunc}
 use Rattle.rw_program.specs.declared.linked.LinkedGlobal.{LinkedGlobal}
 use Rattle.rw_program.specs.Linking.{global_of}
+use Rattle.layout.specs.Calls.{code_results}
 use Rattle.layout.specs.Frames.{taken_words}
 use Rattle.lowering_rows.specs.Labels.{Label, label_height, label_index}
 use Rattle.lowering_rows.specs.Surroundings.{Surroundings, first_global, global_place, global_size}
-use Rattle.lowering_rows.specs.Taken.{code_results, local_size, words_under_top}
+use Rattle.lowering_rows.specs.Taken.{local_size, words_under_top}
 use Rattle.lowering_heights.proofs.Counted.{note_tells}
 use Rattle.lowering_heights.proofs.Sizes.{size-append, size-reverse}
 use Rattle.lowering_locals.specs.Fitting.{OutcomeFits}

@@ -7,8 +7,9 @@ use Rattle.rich_types.specs.Scopes.{scope_of}
 use Rattle.rich_types.specs.Sizes.{list_size}
 use Rattle.rich_rules.specs.Points.{Frame, Point}
 use Rattle.rich_rules.specs.Table.{note_of, rest_size, takes}
+use Rattle.layout.specs.Calls.{top_of}
 use Rattle.layout.specs.Frames.{taken_words}
-use Rattle.lowering_rows.specs.Taken.{top_of, under_top, words_under_top}
+use Rattle.lowering_rows.specs.Taken.{under_top, words_under_top}
 use Rattle.lowering_heights.proofs.Sizes.{size-reverse}
 
 drop_front : (xs ys : List Ty) → drop (length xs) (xs ++ ys) ≡ ys

@@ -26,7 +26,7 @@ use Rattle.rich_types_laws.proofs.Unchanged.{unchanged}
 use Rattle.rich_rules.specs.Raised.{instances}
 use Rattle.rich_rules.specs.Table.{indirect_count}
 use Rattle.rich_rules_formed.specs.Formed.{AreFormed}
-use Rattle.lowering_rows.specs.Taken.{code_results}
+use Rattle.layout.specs.Calls.{code_results}
 
 -- what is bound in a scope is bound alike in another
 pub record Includes (d : Depth) (c e : Scope) : Type 0 where

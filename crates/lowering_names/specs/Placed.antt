@@ -16,11 +16,12 @@ use Rattle.rw_program.specs.declared.linked.LinkedGlobal.{LinkedGlobal}
 use Rattle.rw_program.specs.Linking.{global_of}
 use Rattle.rw_program.specs.Programs.{Program}
 use Rattle.rich_linking.specs.TypedPrograms.{types_of_functions, types_of_globals}
+use Rattle.layout.specs.Calls.{code_results, top_of}
 use Rattle.layout.specs.Cells.{offsets_from}
 use Rattle.layout.specs.Limits.{greatest_result}
 use Rattle.lowering_rows.specs.Labels.{Label}
 use Rattle.lowering_rows.specs.Surroundings.{Surroundings, first_result}
-use Rattle.lowering_rows.specs.Taken.{code_results, scope_at, top_of, words_under_top}
+use Rattle.lowering_rows.specs.Taken.{scope_at, words_under_top}
 use Rattle.lowering_heights.specs.Heights.{height_at}
 use Rattle.lowering_locals.specs.Fitting.{LocalsFit}
 use Rattle.lowering_rows_typed.specs.Contexts.{taking_words}

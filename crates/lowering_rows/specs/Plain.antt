@@ -4,13 +4,14 @@ use Rattle.std.specs.Prelude.{ℕ, suc, ◌+◌, List, [], ◌∷◌, ◌++◌, 
 use Rattle.wasm_ast.specs.declared.instructions.WInstr as w
 use Rattle.rw_types.specs.declared.instrs.Instr as i
 use Rattle.rich_typing.specs.declared.notes.Note.{Note}
+use Rattle.layout.specs.Calls.{code_results, top_of}
 use Rattle.layout.specs.Frames.{taken_words}
 use Rattle.layout.specs.Limits.{functions_before}
 use Rattle.lowering_rows.specs.Moves.{erased, fetches, gets, gives, moves}
 use Rattle.lowering_rows.specs.Numbers.{number_code}
 use Rattle.lowering_rows.specs.Surroundings.{Surroundings, called_results, first_result, global_place, global_size, local_place, operand_place}
 use Rattle.lowering_rows.specs.Labels.{Label, label_height, label_index}
-use Rattle.lowering_rows.specs.Taken.{code_results, local_size, scope_at, top_height, top_of, words_under_top}
+use Rattle.lowering_rows.specs.Taken.{local_size, scope_at, top_height, words_under_top}
 use Rattle.lowering_rows.specs.Cells.{deepest_place, exist_pack_code, free_code, struct_get_code, struct_malloc_code, struct_set_code, struct_swap_code, variant_malloc_code}
 use Rattle.lowering_rows.specs.Arrays.{array_get_code, array_len_code, array_malloc_code, array_set_code}
 

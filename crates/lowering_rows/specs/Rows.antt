@@ -5,10 +5,11 @@ use Rattle.wasm_ast.specs.declared.instructions.WInstr as w
 use Rattle.rw_types.specs.declared.instrs.Instr.{Instr, Block', Loop', If', MemUnpack', VariantCase', ExistUnpack', Row_of-Instr, end_of-Instr, more_of-Instr, Row_of-Instr-VariantCase-1-1, end_of-Instr-VariantCase-1-1, more_of-Instr-VariantCase-1-1}
 use Rattle.rich_typing.specs.declared.notes.Note.{Note}
 use Rattle.layout.specs.Bodies.{nested_count, row_count}
+use Rattle.layout.specs.Calls.{top_of}
 use Rattle.lowering_rows.specs.Moves.{address, load_word, loads}
 use Rattle.lowering_rows.specs.Surroundings.{Surroundings, first_scratch, free_function, operand_place}
 use Rattle.lowering_rows.specs.Labels.{Label, case_label, plain_label}
-use Rattle.lowering_rows.specs.Taken.{body_words, case_words, is_linear_reference, scope_at, top_height, top_of}
+use Rattle.lowering_rows.specs.Taken.{body_words, case_words, is_linear_reference, scope_at, top_height}
 use Rattle.lowering_rows.specs.Plain.{plain_row}
 
 -- a cell of the linear memory whose content was taken is freed; its address is in the first scratch word

@@ -4,19 +4,15 @@ use Rattle.std.specs.Prelude.{ℕ, ◌+◌, List, [], ◌∷◌, Bool, true, fal
 use Rattle.rw_types.specs.declared.types.Heap.{Struct', Variant', Array', Exist'}
 use Rattle.rw_types.specs.declared.types.Mem.{Mem}
 use Rattle.rw_types.specs.declared.types.Mem.TheVariants.{L, U}
-use Rattle.rw_types.specs.declared.types.Pre.{Unit, Ref, Code', end_of-FunType, more_of-FunType}
-use Rattle.rw_types.specs.declared.types.Qual.TheVariants.{Unr}
+use Rattle.rw_types.specs.declared.types.Pre.{Ref}
 use Rattle.rw_types.specs.declared.types.Ty.{Ty, Of, end_of-Ty, more_of-Ty}
-use Rattle.rich_types.specs.Scopes.{Scope, memory_of, scope_of, with_variable, within}
-use Rattle.rich_types.specs.Sizes.{list_size, row_size, size_under}
+use Rattle.rich_types.specs.Scopes.{Scope, memory_of, scope_of, with_variable}
+use Rattle.rich_types.specs.Sizes.{list_size, size_under}
 use Rattle.rich_typing.specs.declared.notes.Note.{Note}
+use Rattle.layout.specs.Calls.{no_type}
 use Rattle.layout.specs.Cells.{case_words_in, offset_in, value_words_in}
 
--- a type of no words, for where there is no operand
-abbrev pub no_type : Ty
-no_type = Of Unr Unit
-
--- the deepest operand, the one above it, the top one, and all but the top one
+-- the deepest operand, the one above it, and all but the top one
 abbrev pub deepest : List Ty → Ty
 deepest [] = no_type
 deepest (t ∷ ts) = t
@@ -24,11 +20,6 @@ deepest (t ∷ ts) = t
 abbrev pub second : List Ty → Ty
 second [] = no_type
 second (t ∷ ts) = deepest ts
-
-abbrev pub top_of : List Ty → Ty
-top_of [] = no_type
-top_of (t ∷ []) = t
-top_of (t ∷ u ∷ ts) = top_of (u ∷ ts)
 
 abbrev pub under_top : List Ty → List Ty
 under_top [] = []
@@ -90,8 +81,3 @@ is_linear None = false
 abbrev pub is_linear_reference : Scope → Ty → Bool
 is_linear_reference c (Of q (Ref p l h)) = is_linear (memory_of c l)
 is_linear_reference c _ = false
-
--- of a function that is called through its type, the words of what it gives
-abbrev pub code_results : Scope → Ty → ℕ
-code_results c (Of q (Code' a (more_of-FunType bs m ps n rs end_of-FunType))) = row_size (within bs c) rs
-code_results c _ = 0

@@ -6,9 +6,10 @@ use Rattle.rw_types.specs.declared.instrs.Instr.{Instr, Block', Loop', If', MemU
 use Rattle.rw_types.specs.declared.instrs.Instr.TheBlock.{hidden-the_row-Instr-0, hidden-the_row-Instr-VariantCase-1-1-1}
 use Rattle.rich_typing.specs.declared.notes.Note.{Note}
 use Rattle.layout.specs.Bodies.{nested, nested_count, nested_row, nested_rows, row_count, rows_count, text_order}
+use Rattle.layout.specs.Calls.{top_of}
 use Rattle.lowering_rows.specs.Surroundings.{Surroundings, operand_place}
 use Rattle.lowering_rows.specs.Labels.{Label, case_label, plain_label}
-use Rattle.lowering_rows.specs.Taken.{body_words, scope_at, top_height, top_of}
+use Rattle.lowering_rows.specs.Taken.{body_words, scope_at, top_height}
 use Rattle.lowering_rows.specs.Rows.{arms_code, case_arm, keeps_reference, row, row_code, rows, takes_content}
 use Rattle.lowering_rows_laws.specs.Laws.{BlocksHold, IfsHold, ListsFollow, LocationsOpen, LoopsHold, OwnNotesAreRead, PackagesOpen, VariantsOpen, arms, count}
 

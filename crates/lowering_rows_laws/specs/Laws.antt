@@ -10,9 +10,10 @@ use Rattle.rich_typing.specs.declared.notes.Note.{Note}
 use Rattle.rw_program.specs.LonePrograms.{lone_func, lone_program}
 use Rattle.lowering_table.specs.Codes.{low_function, main_code}
 use Rattle.layout.specs.Bodies.{text_order}
+use Rattle.layout.specs.Calls.{top_of}
 use Rattle.lowering_rows.specs.Surroundings.{Surroundings, operand_place}
 use Rattle.lowering_rows.specs.Labels.{Label, case_label, plain_label}
-use Rattle.lowering_rows.specs.Taken.{body_words, scope_at, top_height, top_of}
+use Rattle.lowering_rows.specs.Taken.{body_words, scope_at, top_height}
 use Rattle.lowering_rows.specs.Rows.{case_arm, keeps_reference, no_case, row, rows, takes_content}
 use Rattle.lowering_rows.specs.Functions.{function_code, start_code}
 

@@ -9,10 +9,11 @@ use Rattle.wasm_typing.specs.Typing.{AreTyped, Labels}
 use Rattle.rw_types.specs.declared.instrs.Instr.{Block', Loop', If', MemUnpack', VariantCase', ExistUnpack', Row_of-Instr-VariantCase-1-1, end_of-Instr-VariantCase-1-1, more_of-Instr-VariantCase-1-1}
 use Rattle.rich_typing.specs.declared.notes.Note.{Note}
 use Rattle.layout.specs.Bodies.{row_count}
+use Rattle.layout.specs.Calls.{top_of}
 use Rattle.lowering_rows.specs.Moves.{load_word}
 use Rattle.lowering_rows.specs.Surroundings.{Surroundings, first_scratch, operand_place}
 use Rattle.lowering_rows.specs.Labels.{Label, case_label, plain_label}
-use Rattle.lowering_rows.specs.Taken.{body_words, case_words, is_linear_reference, scope_at, top_height, top_of}
+use Rattle.lowering_rows.specs.Taken.{body_words, case_words, is_linear_reference, scope_at, top_height}
 use Rattle.lowering_rows.specs.Rows.{arms_code, freed, is_case, keeps_reference, row_code, takes_content}
 use Rattle.lowering_rows_typed.specs.Contexts.{HasWhatIsNamed}
 use Rattle.lowering_rows_typed.specs.Names.{HasRoom}

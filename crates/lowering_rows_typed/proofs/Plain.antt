@@ -16,6 +16,7 @@ use Rattle.rich_types.specs.Sizes.{list_greatest, size_under}
 use Rattle.rich_typing.specs.declared.notes.Note.{Note}
 use Rattle.rw_program.specs.declared.linked.LinkedGlobal.{LinkedGlobal}
 use Rattle.layout.specs.Bodies.{ends_list}
+use Rattle.layout.specs.Calls.{code_results, top_of}
 use Rattle.layout.specs.Cells.{slot_offsets}
 use Rattle.layout.specs.Frames.{global_words, result_words, taken_words}
 use Rattle.layout.specs.Limits.{functions_before}
@@ -23,7 +24,7 @@ use Rattle.lowering_rows.specs.Moves.{fetches, moves, store_word, stores}
 use Rattle.lowering_rows.specs.Labels.{Label, label_height, label_index}
 use Rattle.lowering_rows.specs.Surroundings as around
 use Rattle.lowering_rows.specs.Surroundings.{Surroundings, called_results, first_global, first_result, first_scratch, global_place, global_size, local_place, operand_place, place_of_global, words_given_by}
-use Rattle.lowering_rows.specs.Taken.{code_results, deepest, each_size, element_words, local_size, scope_at, second, slot_offset, slot_value_words, top_height, top_of, words_under_top}
+use Rattle.lowering_rows.specs.Taken.{deepest, each_size, element_words, local_size, scope_at, second, slot_offset, slot_value_words, top_height, words_under_top}
 use Rattle.lowering_rows.specs.Cells.{deepest_place, exist_pack_code, struct_malloc_code, variant_malloc_code}
 use Rattle.lowering_rows.specs.Arrays.{array_malloc_code, fill_elements}
 use Rattle.lowering_rows.specs.Plain.{branches, plain_row}

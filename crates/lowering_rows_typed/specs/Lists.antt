@@ -6,9 +6,10 @@ use Rattle.wasm_typing.specs.Typing.{AreTyped}
 use Rattle.rw_types.specs.declared.instrs.Instr.{Instr, Block', Loop', If', MemUnpack', VariantCase', ExistUnpack', Row_of-Instr, Row_of-Instr-VariantCase-1-1, end_of-Instr-VariantCase-1-1, more_of-Instr-VariantCase-1-1}
 use Rattle.rich_typing.specs.declared.notes.Note.{Note}
 use Rattle.layout.specs.Bodies.{row_count}
+use Rattle.layout.specs.Calls.{top_of}
 use Rattle.lowering_rows.specs.Surroundings.{Surroundings}
 use Rattle.lowering_rows.specs.Labels.{Label, case_label, plain_label}
-use Rattle.lowering_rows.specs.Taken.{body_words, case_words, scope_at, top_height, top_of}
+use Rattle.lowering_rows.specs.Taken.{body_words, case_words, scope_at, top_height}
 use Rattle.lowering_rows.specs.Rows.{row_code}
 use Rattle.lowering_rows_typed.specs.Names.{HasRoom}
 

@@ -8,11 +8,12 @@ use Rattle.rich_types.specs.Sizes.{size_under}
 use Rattle.rw_types.specs.declared.instrs.Instr as i
 use Rattle.rich_typing.specs.declared.notes.Note.{Note}
 use Rattle.rw_program.specs.declared.linked.LinkedFunc.{LinkedFunc}
+use Rattle.layout.specs.Calls.{code_results, top_of}
 use Rattle.layout.specs.Frames.{parameter_words, result_words, taken_words}
 use Rattle.layout.specs.Limits.{global_count}
 use Rattle.lowering_rows.specs.Labels.{Label, label_height, label_index}
 use Rattle.lowering_rows.specs.Surroundings.{Surroundings, first_result, first_scratch, global_place, global_size, local_place, operand_place}
-use Rattle.lowering_rows.specs.Taken.{code_results, deepest, element_words, local_size, scope_at, second, slot_value_words, top_height, top_of, words_under_top}
+use Rattle.lowering_rows.specs.Taken.{deepest, element_words, local_size, scope_at, second, slot_value_words, top_height, words_under_top}
 use Rattle.lowering_rows_typed.specs.Contexts.{taking_words}
 
 module _ (s : Surroundings) where
