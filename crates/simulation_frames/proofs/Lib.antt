@@ -1,0 +1,4 @@
+pub mod Words
+pub mod Locals
+pub mod Open
+pub mod Onward
