@@ -34,18 +34,18 @@ module _ (p : Program) (e : Environment) (b : Body) (book : Book) (a : r.Config)
   -- both go on, with these operands
   on : (operands : List Ty) (vs : List r.Val) → row b.frame run.point i ≡ Gives operands None → own_code p e b book a c i is run next ≡ wasm.Nop ∷ [] →
       rich_steps.act p.funcs i (record a.here { rest = is }) a ≡ Went [] (record a { here = record a.here { rest = is; operands = vs } }) →
-      AreHeld b book c.here.locals (moved run.point operands None) operands vs → StepsAlike p e b book a c is
+      AreHeld b book c.here.locals (moved run.point operands None) operands vs → StepsAlike p e b book a c is 1
   on operands vs r code act held =
       onward p e b book a c i is run next operands None vs a.here.locals 1 c.here.locals r act
       (λ rest is. one_step (wasm_steps.step e) c (record c { here = record c.here { rest = rest } }) (acts e WInstr-F.Nop wasm.Nop rolls-Nop rest c (is ∙ ap (λ (l : List WInstr). l ++ rest) code)))
       refl (λ n l u. refl) run.stands.locals held
 
 module _ (p : Program) (e : Environment) (b : Body) (book : Book) (a : r.Config) (c : w.Config) (is : List Instr) where
-  of_nop : IsRunning b book a.here c.here → a.here.rest ≡ Nop ∷ is → StepsAlike p e b book a c is
+  of_nop : IsRunning b book a.here c.here → a.here.rest ≡ Nop ∷ is → StepsAlike p e b book a c is 1
   unfolding row
   of_nop run next = on p e b book a c Nop is run next run.point.operands a.here.operands refl refl refl (record { words = run.stands.operands.words; spelled = run.stands.operands.spelled; held = run.stands.operands.held })
 
-  of_drop : IsRunning b book a.here c.here → a.here.rest ≡ Drop ∷ is → StepsAlike p e b book a c is
+  of_drop : IsRunning b book a.here c.here → a.here.rest ≡ Drop ∷ is → StepsAlike p e b book a c is 1
   unfolding row
   of_drop run next =
       let o = outcome p e b book a c Drop is run next in
@@ -59,7 +59,7 @@ module _ (p : Program) (e : Environment) (b : Body) (book : Book) (a : r.Config)
         held = held_front c.here.locals (operand_place b.around (base_at run.point)) t.beneath t.own (subst (λ (l : List ℕ). Holds c.here.locals (operand_place b.around (base_at run.point)) l) t.parts run.stands.operands.held);
       })
 
-  of_unit : IsRunning b book a.here c.here → a.here.rest ≡ Unit ∷ is → StepsAlike p e b book a c is
+  of_unit : IsRunning b book a.here c.here → a.here.rest ≡ Unit ∷ is → StepsAlike p e b book a c is 1
   unfolding row
   of_unit run next =
       on p e b book a c Unit is run next (unr_unit ∷ run.point.operands) (r.Empty ∷ a.here.operands) refl refl refl
@@ -69,7 +69,7 @@ module _ (p : Program) (e : Environment) (b : Body) (book : Book) (a : r.Config)
         held = run.stands.operands.held;
       })
 
-  of_qualify : IsRunning b book a.here c.here → a.here.rest ≡ Qualify ∷ is → StepsAlike p e b book a c is
+  of_qualify : IsRunning b book a.here c.here → a.here.rest ≡ Qualify ∷ is → StepsAlike p e b book a c is 1
   unfolding row
   of_qualify run next =
       let o = outcome p e b book a c Qualify is run next in

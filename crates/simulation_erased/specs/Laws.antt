@@ -17,6 +17,6 @@ IsErased Unit = ⊤
 IsErased Qualify = ⊤
 IsErased _ = ⊥
 
--- where such an instruction is next, both make steps
+-- where such an instruction is next, both make one step
 abbrev pub ErasedStepsAlike : Type 0
-ErasedStepsAlike = (p : Program) (e : Environment) (b : Body) (book : Book) (a : r.Config) (c : w.Config) (i : Instr) (is : List Instr) → IsErased i → IsRunning b book a.here c.here → a.here.rest ≡ i ∷ is → StepsAlike p e b book a c is
+ErasedStepsAlike = (p : Program) (e : Environment) (b : Body) (book : Book) (a : r.Config) (c : w.Config) (i : Instr) (is : List Instr) → IsErased i → IsRunning b book a.here c.here → a.here.rest ≡ i ∷ is → StepsAlike p e b book a c is 1

@@ -1,12 +1,16 @@
 -- The words of locals: one that is found, one that is set, and all that are kept.
-use Rattle.std.proofs.Common.{◌≡◌, ◌≤◌, ℕ, zero, suc, ◌+◌, List, [], ◌∷◌, Some, length, refl, sym, subst, arith}
+use Rattle.std.proofs.Common.{◌≡◌, ◌∙◌, ◌≤◌, ℕ, zero, suc, ◌+◌, List, [], ◌∷◌, Some, length, refl, ap, sym, subst, arith}
 use Rattle.std.specs.Prelude.{slice_get, slice_set, sum}
 use Rattle.std.proofs.lemmas.List.Sums.{sum_by-cons}
 use Rattle.rw_types.specs.declared.types.Ty.{Ty}
 use Rattle.rich_types.specs.Scopes.{Scope}
 use Rattle.rich_reduction.specs.Configurations.{Val}
 use Rattle.layout.specs.Cells.{offsets_from}
+use Rattle.rich_rules.specs.Points.{Frame}
+use Rattle.lowering_rows.specs.Surroundings.{Surroundings, local_place, place_in}
+use Rattle.lowering_heights.proofs.Parts.{lie_apart}
 use Rattle.lowering_locals.specs.Fitting.{AreFitting}
+use Rattle.lowering_names.specs.Placed.{StandsIn}
 use Rattle.lowering_runs.specs.Laws.{written}
 use Rattle.simulation_relation.specs.Words.{Book, Holds, IsSpelled, LocalsHold}
 use Rattle.simulation_frames.specs.Laws.{AreKept}
@@ -46,6 +50,30 @@ not_before : (at : ℕ) (sizes : List ℕ) (j n : ℕ) → slice_get (offsets_fr
 not_before at [] j n e = cc
 not_before at (s ∷ ss) zero n e = let same : at ≡ n = cc in omega (arith, same)
 not_before at (s ∷ ss) (suc j) n e = omega (arith, not_before (at + s) ss j n e)
+
+-- the slot of a local
+slot_found : {A : Type 0} (ts : List A) (slots : List ℕ) (n : ℕ) (t : A) → length ts ≡ length slots → slice_get ts n ≡ Some t → (k : ℕ) × (slice_get slots n ≡ Some k)
+slot_found [] slots n t l e = cc
+slot_found (u ∷ ts) [] n t l e = absurd (omega (arith, l))
+slot_found (u ∷ ts) (k ∷ slots) zero t l e = (k, refl)
+slot_found (u ∷ ts) (k ∷ slots) (suc n) t l e = slot_found ts slots n t (omega (arith, l)) e
+
+-- a local's place and its slot, which ends where the operands begin or before
+pub record HasSlot (s : Surroundings) (slots : List ℕ) (n place : ℕ) : Type 0 where
+  pub size : ℕ
+  pub found : slice_get slots n ≡ Some size
+  pub placed : local_place s n ≡ place
+  pub within : place + size ≤ s.places.operands
+
+pub slot_of : (s : Surroundings) (f : Frame) (room : ℕ) (c : Scope) (locals : List Ty) (n : ℕ) (t : Ty) (place : ℕ) → StandsIn s f room → AreFitting c f.slots locals → slice_get locals n ≡ Some t → slice_get (offsets_from 0 f.slots) n ≡ Some place → HasSlot s f.slots n place
+slot_of s f room c locals n t place stands fits e p =
+    let k = slot_found locals f.slots n t fits.same_length e in
+    record {
+      size = k.0;
+      found = k.1;
+      placed = ap (λ (l : List ℕ). place_in (slice_get l n)) stands.locals ∙ ap place_in p;
+      within = omega (arith, stands.operands, (lie_apart 0 f.slots n place k.0 p k.1).0);
+    }
 
 fit_behind : (c : Scope) (k : ℕ) (slots : List ℕ) (t : Ty) (ts : List Ty) → AreFitting c (k ∷ slots) (t ∷ ts) → AreFitting c slots ts
 fit_behind c k slots t ts f = record { same_length = omega (arith, f.same_length); fit = λ n u m. f.fit (suc n) u m }

@@ -78,13 +78,12 @@ module _ (p : Program) (e : Environment) (b : Body) (book : Book) (a : r.Config)
       ((rest : List WInstr) → c.here.rest ≡ own_code ++ rest → Comes (wasm_steps.step e) n c [] (record c { here = record c.here { rest = rest; locals = locals } })) →
       length locals ≡ length c.here.locals → AreKept b.around.places.operands (operand_place b.around (base_at run.point)) c.here.locals locals →
       LocalsHold book (scope_of run.point.binders) locals b.around.places.locals (changed_to change run.point.locals) ls →
-      AreHeld b book locals (moved run.point operands change) operands vs → StepsAlike p e b book a c is
+      AreHeld b book locals (moved run.point operands change) operands vs → StepsAlike p e b book a c is n
   onward operands change vs ls n locals r act steps many kept hold held =
       let m = lists_move_on b book run.stands.labels run.stands.demand run.point i is operands change c.here.rest there r in
       let base = base_above run.point there.lists there.placed.lowered run.stands.lists in
       record {
         here = record a.here { rest = is; operands = vs; locals = ls };
-        steps = n;
         target = record c.here { rest = m.0; locals = locals };
         source_step = source ∙ act;
         target_steps = steps m.0 m.1;

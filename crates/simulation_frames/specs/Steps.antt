@@ -14,9 +14,8 @@ use Rattle.simulation_relation.specs.Words.{Book}
 
 -- a step of the program, which leaves this of the list, is answered by so many of the lowered module: they say nothing and change
 -- nothing but the call that runs, which stays a call of the same function, and the body runs on
-pub record StepsAlike (p : Program) (e : Environment) (b : Body) (book : Book) (a : r.Config) (c : w.Config) (rest : List Instr) : Type 0 where
+pub record StepsAlike (p : Program) (e : Environment) (b : Body) (book : Book) (a : r.Config) (c : w.Config) (rest : List Instr) (steps : ℕ) : Type 0 where
   pub here : r.Here
-  pub steps : ℕ
   pub target : w.Here
   pub source_step : rich_steps.step p.funcs a ≡ Went [] (record a { here = here })
   pub target_steps : Comes (wasm_steps.step e) steps c [] (record c { here = target })
