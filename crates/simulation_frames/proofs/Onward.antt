@@ -1,7 +1,7 @@
 -- A body runs on behind an instruction that gives operands.
 use Rattle.std.proofs.Common.{◌≡◌, ◌∙◌, ℕ, List, [], ◌∷◌, ◌++◌, Option, length, refl, ap, subst, arith}
 use Rattle.machine_steps.specs.Simulations.{Comes}
-use Rattle.machine_steps.specs.Steps.{Turn, Went, reached, reached_by}
+use Rattle.machine_steps.specs.Steps.{Turn, Went, onward as onward_from, reached, reached_by}
 use Rattle.wasm_ast.specs.declared.instructions.WInstr.{WInstr}
 use Rattle.wasm_execution.specs.Configurations as w
 use Rattle.wasm_execution.specs.Environments.{Environment}
@@ -37,6 +37,10 @@ outcome_of f d p i is notes (step o later r nn x) = (o, r, goes_of x)
 -- one step
 pub one_step : {E B : Type 0} (g : B → Turn E B) (b c : B) → g b ≡ Went [] c → Comes g 1 b [] c
 one_step g b c s = record { by = ap (λ o. reached_by o b (reached g 0)) s }
+
+-- two steps
+pub two_steps : {E B : Type 0} (g : B → Turn E B) (b c d : B) → g b ≡ Went [] c → g c ≡ Went [] d → Comes g 2 b [] d
+two_steps g b c d s t = record { by = ap (λ o. reached_by o b (reached g 1)) s ∙ ap (λ r. onward_from [] r) (one_step g c d t).by }
 
 -- operands that are not empty
 pub record HasTop (book : Book) (c : Scope) (t : Ty) (ts : List Ty) (vs : List r.Val) (words : List ℕ) : Type 0 where

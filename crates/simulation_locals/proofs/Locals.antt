@@ -1,6 +1,6 @@
 -- The cases of instructions on locals.
 use Rattle.std.proofs.Common.{◌≡◌, ◌∙◌, ◌≤◌, inl, inr, ℕ, ◌+◌, List, [], ◌∷◌, ◌++◌, Option, None, Some, length, refl, ap, sym, subst, arith}
-use Rattle.std.specs.Prelude.{slice_get, slice_set, sum}
+use Rattle.std.specs.Prelude.{slice_get, slice_set}
 use Rattle.machine_steps.specs.Steps.{Went, with_found}
 use Rattle.wasm_execution.specs.Configurations as w
 use Rattle.wasm_execution.specs.Environments.{Environment}
@@ -10,7 +10,7 @@ use Rattle.wasm_ast.specs.declared.instructions.WInstr.{WInstr}
 use Rattle.rw_types.specs.declared.instrs.Instr.{Instr, LocalGet, LocalSet, LocalTake}
 use Rattle.rw_types.specs.declared.types.Ty.{Ty}
 use Rattle.rich_types.specs.Scopes.{Scope, scope_of}
-use Rattle.rich_types.specs.Sizes.{list_size, size_under}
+use Rattle.rich_types.specs.Sizes.{size_under}
 use Rattle.rich_rules.specs.Points.{Becomes, Change, Gives, OfFunction, changed_to, OfGlobal, Outcome, Owner}
 use Rattle.rich_rules.specs.Table.{in_function, note_of, row, takes}
 use Rattle.rich_rules.specs.Takers.{unr_unit}
@@ -32,13 +32,14 @@ use Rattle.lowering_names.proofs.Notes.{beneath_is, words_are}
 use Rattle.lowering_names.proofs.Places.{set_same}
 use Rattle.lowering_runs.specs.Laws.{written}
 use Rattle.lowering_runs.proofs.Runs.{moves_run}
-use Rattle.simulation_relation.specs.Bodies.{AreHeld, Body, IsRunning, base_at}
+use Rattle.simulation_relation.specs.Bodies.{Body, IsRunning, base_at}
 use Rattle.simulation_relation.specs.Words.{Book, Holds, LocalsHold}
 use Rattle.simulation_lists.proofs.Moving.{lists_move_on}
 use Rattle.simulation_frames.specs.Steps.{StepsAlike}
-use Rattle.simulation_frames.proofs.Words.{held_back, held_front, held_joined, kept_above, kept_below, kept_held, spelled_size, written_held, written_length}
-use Rattle.simulation_frames.proofs.Locals.{HasLocal, HasSlot, local_found, local_set, locals_kept, slot_of}
+use Rattle.simulation_frames.proofs.Words.{held_back, held_front, kept_above, kept_held, spelled_size, written_length}
+use Rattle.simulation_frames.proofs.Locals.{HasLocal, HasSlot, local_found, local_set, slot_of}
 use Rattle.simulation_frames.proofs.Onward.{onward, outcome, own_code, there, top}
+use Rattle.simulation_frames.proofs.Pushed.{in_places, in_slots, pushed, room, same_locals}
 use Rattle.simulation_locals.specs.Laws.{LocalsStepAlike, words_moved}
 
 owned : (o : Outcome) → Goes o → (x : Owner) (rest : Outcome) → in_function x rest ≡ o → rest ≡ o
@@ -52,24 +53,16 @@ module _ (p : Program) (e : Environment) (b : Body) (book : Book) (a : r.Config)
   abbrev Hold : List ℕ → List Ty → List r.Val → Type 0
   Hold locals types vs = LocalsHold book At locals (offsets_from 0 b.frame.slots) types vs
 
-  -- the locals stand in their slots, and so they do where the relation has them
   side : Hold c.here.locals run.point.locals a.here.locals
-  side = subst (λ (l : List ℕ). LocalsHold book At c.here.locals l run.point.locals a.here.locals) stands.locals run.stands.locals
-
-  back : (locals : List ℕ) (types : List Ty) (vs : List r.Val) → Hold locals types vs → LocalsHold book At locals b.around.places.locals types vs
-  back locals types vs h = subst (λ (l : List ℕ). LocalsHold book At locals l types vs) (sym stands.locals) h
-
-  -- the room of an instruction that gives operands
-  height_of : (i : Instr) → a.here.rest ≡ i ∷ is → (operands : List Ty) (change : Option Change) → row b.frame run.point i ≡ Gives operands change → list_size At operands + base_at run.point ≤ b.room
-  height_of i next operands change given = (lists_move_on b book run.stands.labels run.stands.demand run.point i is operands change c.here.rest (there p e b book a c i is run next) given).2.placed.height
+  side = in_slots p e b book a c is stands run
 
   -- words of a local are put on the operands
   module _ (i : Instr) (n : ℕ) (next : a.here.rest ≡ i ∷ is) (t : Ty) (found : slice_get run.point.locals n ≡ Some t) (change : Option Change) (given : row b.frame run.point i ≡ Gives (t ∷ run.point.operands) change) (none : takes b.frame run.point i ≡ 0) where
-    abbrev To : ℕ
-    To = operand_place b.around (note_of b.frame run.point i).beneath
-
     abbrev Words : ℕ
     Words = local_size At (slice_get run.point.locals n)
+
+    abbrev To : ℕ
+    To = operand_place b.around (note_of b.frame run.point i).beneath
 
     x : HasLocal book At c.here.locals (offsets_from 0 b.frame.slots) a.here.locals n t
     x = local_found book At c.here.locals (offsets_from 0 b.frame.slots) run.point.locals a.here.locals n t side found
@@ -77,52 +70,31 @@ module _ (p : Program) (e : Environment) (b : Body) (book : Book) (a : r.Config)
     k : HasSlot b.around b.frame.slots n x.place
     k = slot_of b.around b.frame b.room At run.point.locals n t x.place stands run.stands.rest_left.placed.locals found x.placed
 
+    abbrev After : List ℕ
+    After = written To x.words c.here.locals
+
     many : length x.words ≡ Words
     many = x.spelled.sized ∙ sym (ap (λ (o : Option Ty). local_size At o) found)
 
     fits : size_under At t ≤ k.size
     fits = run.stands.rest_left.placed.locals.fit n t k.size found k.found
 
-    high : (note_of b.frame run.point i).beneath ≡ list_size At run.point.operands + base_at run.point
-    high = beneath_is b.frame run.point i [] run.point.operands none refl
-
-    abbrev After : List ℕ
-    After = written To x.words c.here.locals
-
-    room : To + length x.words ≤ length c.here.locals
-    room = omega (arith, high, x.spelled.sized, height_of i next (t ∷ run.point.operands) change given, stands.scratch, run.stands.frame)
-
-    holds : Hold After run.point.locals a.here.locals
-    holds = locals_kept book At c.here.locals After 0 b.frame.slots run.point.locals a.here.locals run.stands.rest_left.placed.locals (kept_below To x.words c.here.locals 0 (0 + sum b.frame.slots) (omega (arith, stands.operands))) side
-
-    on_top : AreHeld b book After run.point (t ∷ run.point.operands) (x.value ∷ a.here.operands)
-    on_top =
-        let ws = run.stands.operands.words in
-        let base = operand_place b.around (base_at run.point) in
-        let size = spelled_size book At run.point.operands a.here.operands ws run.stands.operands.spelled in
-        let place : To ≡ base + length ws = omega (arith, high, size) in
-        let kept = kept_below To x.words c.here.locals 0 To (omega arith) in
-        record {
-          words = ws ++ x.words;
-          spelled = (ws, x.words, refl, x.spelled, run.stands.operands.spelled);
-          held = held_joined After base ws x.words (kept_held c.here.locals After 0 To kept base ws (omega arith) (omega (arith, place)) run.stands.operands.held) (subst (λ (m : ℕ). Holds After m x.words) place (written_held To x.words c.here.locals room));
-        }
-
     code_runs : own_code p e b book a c i is run next ≡ moves Words (local_place b.around n) To → (rest : List WInstr) → c.here.rest ≡ own_code p e b book a c i is run next ++ rest →
         Comes (wasm_steps.step e) (Words + Words) c [] (record c { here = record c.here { rest = rest; locals = After } })
     code_runs code rest at =
-        moves_run e c Words (local_place b.around n) To rest x.words (at ∙ ap (λ (l : List WInstr). l ++ rest) code) many (subst (λ (m : ℕ). Holds c.here.locals m x.words) (sym k.placed) x.held) (omega (arith, room, many))
+        moves_run e c Words (local_place b.around n) To rest x.words (at ∙ ap (λ (l : List WInstr). l ++ rest) code) many (subst (λ (m : ℕ). Holds c.here.locals m x.words) (sym k.placed) x.held)
+        (omega (arith, room p e b book a c is stands run i next t x.value x.words x.spelled change given none, many))
         (inr (omega (arith, k.placed, k.within, fits, many, x.spelled.sized)))
+
+    -- the locals are not changed by that
+    holds : Hold After run.point.locals a.here.locals
+    holds = same_locals p e b book a c is stands run i next t x.value x.words x.spelled change given none
 
     -- both go on, with these locals
     goes : (ls : List r.Val) → own_code p e b book a c i is run next ≡ moves Words (local_place b.around n) To →
         rich_steps.act p.funcs i (record a.here { rest = is }) a ≡ Went [] (record a { here = record a.here { rest = is; operands = x.value ∷ a.here.operands; locals = ls } }) →
         Hold After (changed_to change run.point.locals) ls → StepsAlike p e b book a c is (Words + Words)
-    goes ls code act hold =
-        onward p e b book a c i is run next (t ∷ run.point.operands) change (x.value ∷ a.here.operands) ls (Words + Words) After given act (code_runs code) (written_length To x.words c.here.locals)
-        (kept_below To x.words c.here.locals b.around.places.operands (operand_place b.around (base_at run.point)) (omega (arith, high)))
-        (back After (changed_to change run.point.locals) ls hold)
-        (record { words = on_top.words; spelled = on_top.spelled; held = on_top.held })
+    goes ls code act hold = pushed p e b book a c is stands run i next t x.value x.words x.spelled change given none ls (Words + Words) act (code_runs code) hold
 
     -- a unit in its place
     emptied : Hold After (slice_set run.point.locals n unr_unit) (slice_set a.here.locals n r.Empty)
@@ -185,7 +157,7 @@ module _ (p : Program) (e : Environment) (b : Body) (book : Book) (a : r.Config)
       (λ rest at. moves_run e c (taken_words note) from (local_place b.around n) rest t.own at (omega (arith, count, own)) ours (omega (arith, k.placed, k.within, fits, count, stands.scratch, run.stands.frame)) (inl (omega (arith, k.placed, k.within))))
       (written_length (local_place b.around n) t.own c.here.locals)
       (λ j l u. kept j l (omega (arith, u, place)))
-      (back after (slice_set run.point.locals n g.value) (slice_set a.here.locals n t.value)
+      (in_places p e b book a c is stands run after (slice_set run.point.locals n g.value) (slice_set a.here.locals n t.value)
       (subst (λ (j : ℕ). Hold (written j t.own c.here.locals) (slice_set run.point.locals n g.value) (slice_set a.here.locals n t.value)) (sym k.placed)
       (local_set book At c.here.locals g.value t.value t.own t.top y.place k.size (omega (arith, fits, own)) (omega (arith, k.within, fits, own, stands.scratch, run.stands.frame)) 0 b.frame.slots run.point.locals a.here.locals n
       run.stands.rest_left.placed.locals k.found y.placed side)))
