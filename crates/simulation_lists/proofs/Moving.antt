@@ -1,5 +1,5 @@
 -- Behind an instruction that gives operands.
-use Rattle.std.proofs.Common.{◌≡◌, ◌∙◌, List, [], ◌∷◌, ◌++◌, Option, length, refl, ap, sym, subst, append_assoc}
+use Rattle.std.proofs.Common.{◌≡◌, ◌∙◌, List, [], ◌∷◌, ◌++◌, Bool, false, Option, cond, length, refl, ap, sym, subst, append_assoc}
 use Rattle.wasm_ast.specs.declared.instructions.WInstr.{WInstr}
 use Rattle.rw_types.specs.declared.instrs.Instr.{Instr, Block', Loop', If', MemUnpack', VariantCase', ExistUnpack'}
 use Rattle.rw_types.specs.declared.types.Ty.{Ty}
@@ -10,7 +10,7 @@ use Rattle.rich_rules.specs.Table.{lists_of, note_of, row}
 use Rattle.rich_rules_inversions.proofs.Bodies as inverted
 use Rattle.rich_rules_formed.specs.Formed.{IsFormedOutcome}
 use Rattle.rich_rules_formed.proofs.Rows.{row_formed}
-use Rattle.layout.specs.Bodies.{nested, nested_count}
+use Rattle.layout.specs.Bodies.{ends_list, nested, nested_count}
 use Rattle.lowering_rows.specs.Labels.{Label}
 use Rattle.lowering_rows.specs.Plain.{plain_row}
 use Rattle.lowering_rows.specs.Surroundings.{Surroundings}
@@ -44,6 +44,12 @@ Behind f d p i is operands change notes = (later : List Note) × (notes ≡ note
 behind_first : (f : Frame) (d : Demand) (p : Point) (i : Instr) (is : List Instr) (operands : List Ty) (change : Option Change) (notes : List Note) → Derives f d p (i ∷ is) notes → row f p i ≡ Gives operands change → Behind f d p i is operands change notes
 behind_first f d p i is operands change notes (step o later r nn x) e = (later, nn, after_gives (subst (λ (z : Outcome). Follows f d p i is z later) (sym r ∙ e) x))
 
+-- what stands behind a list is not changed by an instruction that goes on
+same_end : (end : List WInstr) (labels : List Label) (i : Instr) (is : List Instr) → ends_list i ≡ false → behind end labels (i ∷ is) ≡ behind end labels is
+same_end end [] i [] e = ap (λ (h : Bool). cond h [] end) e
+same_end end [] i (j ∷ is) e = refl
+same_end end (label ∷ labels) i is e = refl
+
 pub lists_move_on : ListsMoveOn
 lists_move_on b book labels d q i is operands change target h r =
     let f = b.frame in
@@ -53,15 +59,17 @@ lists_move_on b book labels d q i is operands change target h r =
     let none = no_lists (Gives operands change) tt f q i r tt in
     let count : 0 ≡ length (nested i) = sym (ap (λ (l : List Instr). length l) none) in
     let room = subst (λ (l : List Note). HasRoom f b.room d q (i ∷ is) l) y.1 h.fits in
-    let left_over = parted f d q i is (note_of f q i) [] later b.room count (goes_further (Gives operands change) tt f q i r tt) room in
+    let further = goes_further (Gives operands change) tt f q i r tt in
+    let left_over = parted f d q i is (note_of f q i) [] later b.room count further room in
+    let end = same_end b.end labels i is further in
     let kept = ap (λ (l : List Note). code.rows s labels is l) (dropped (nested_count i) [] later (nested_counted i ∙ sym count)) in
     let own = plain_code f q i operands change s labels (note_of f q i) later r in
-    let rest : List WInstr = code.rows s labels is later ++ behind b.end labels in (
+    let rest : List WInstr = code.rows s labels is later ++ behind b.end labels is in (
       rest,
       h.lowered
-          ∙ ap (λ (l : List Note). code.rows s labels (i ∷ is) l ++ behind b.end labels) y.1
-          ∙ (λ j. (own j ++ kept j) ++ behind b.end labels)
-          ∙ append_assoc (plain_row s labels i (note_of f q i)) (code.rows s labels is later) (behind b.end labels),
+          ∙ ap (λ (l : List Note). code.rows s labels (i ∷ is) l ++ behind b.end labels (i ∷ is)) y.1
+          ∙ (λ j. (own j ++ kept j) ++ end j)
+          ∙ append_assoc (plain_row s labels i (note_of f q i)) (code.rows s labels is later) (behind b.end labels is),
       record {
         notes = later;
         derived = y.2;
@@ -74,6 +82,7 @@ lists_move_on b book labels d q i is operands change target h r =
           height = first f is b.room y.2 left_over.1;
         };
         fits = left_over.1;
+        returned = h.returned;
         lowered = refl;
       },
     )

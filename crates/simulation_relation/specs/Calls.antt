@@ -10,7 +10,7 @@ use Rattle.rich_reduction.specs.Starts.{own_list}
 use Rattle.rw_program.specs.declared.linked.LinkedFunc.{LinkedFunc}
 use Rattle.rw_program.specs.declared.linked.LinkedGlobal.{LinkedGlobal}
 use Rattle.rw_program.specs.Programs.{Program}
-use Rattle.layout.specs.Frames.{end_words, global_words, initialiser_room, room_of}
+use Rattle.layout.specs.Frames.{global_words, initialiser_room, result_words, room_of}
 use Rattle.layout.specs.Limits.{functions_before, globals_before}
 use Rattle.lowering_table.specs.Modules.{main_function}
 use Rattle.lowering_rows.specs.Moves.{gives}
@@ -45,13 +45,18 @@ after_initialiser p n g = gives (global_words g) (in_initialiser p (index_of_wor
 abbrev pub main_call : Program → List ℕ → List WInstr → List w.Level → w.Here
 main_call p locals rest levels = record { function = main_function p; argument = 0; locals = locals; operands = []; rest = rest; levels = levels }
 
+-- the words of a function's results, the top one first
+abbrev pub result_sizes : LinkedFunc → List ℕ
+result_sizes g = each_size (scope_of g.ty.binders) (reverse g.ty.results)
+
 -- the body of a function, and that of an initialiser, which stands in a block of each list
 abbrev pub function_body_of : Program → LinkedFunc → Body
 function_body_of p g = record {
   around = in_function p (index_of_words p) g;
   frame = frame_of_function p g;
   room = room_of g;
-  end = gives (end_words g) (in_function p (index_of_words p) g).places.operands globals_before;
+  results = result_sizes g;
+  end = gives (result_words g) (in_function p (index_of_words p) g).places.operands globals_before;
   outer = [];
   outer_lists = [];
 }
@@ -61,14 +66,11 @@ initialiser_body_of p n g = record {
   around = in_initialiser p (index_of_words p);
   frame = frame_of_initialiser p n;
   room = initialiser_room p.globals;
+  results = global_words g ∷ [];
   end = [];
   outer = record { aim = r.Past; takes = 1; gives = 1; sizes = []; beneath = []; rest = own_rest p n } ∷ [];
   outer_lists = open_list w.Past (after_initialiser p n g) ∷ [];
 }
-
--- the words of a function's results, the top one first
-abbrev pub result_sizes : LinkedFunc → List ℕ
-result_sizes g = each_size (scope_of g.ty.binders) (reverse g.ty.results)
 
 -- a call of the function of this number
 pub record IsCall (p : Program) (n : ℕ) (g : LinkedFunc) (here : r.Here) (target : w.Here) : Type 0 where
