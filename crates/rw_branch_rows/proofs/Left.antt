@@ -1,5 +1,5 @@
 -- The operands that lie beneath those that are demanded.
-use Rattle.std.proofs.Common.{◌≡◌, ◌≤◌, ◌∙◌, ◌++◌, ◌+◌, ◌-◌, ℕ, suc, List, ◌∷◌, ap, sym, length, take, drop, reverse, arith}
+use Rattle.std.proofs.Common.{◌≡◌, ◌≤◌, ◌∙◌, ◌++◌, ◌+◌, ◌-◌, ℕ, zero, suc, List, [], ◌∷◌, refl, ap, sym, length, take, drop, reverse, arith}
 use Rattle.std.proofs.Math.Seq.{drop-append_seam}
 use Rattle.std.proofs.lemmas.List.{reverse-append, length-append, length-reverse, take-append-drop, length-drop}
 use Rattle.rw_types.specs.declared.types.Ty.{Ty}
@@ -68,3 +68,15 @@ module _ (demanded : List Ty) (all : List Operand) where
       where
         one_more : (k : ℕ) → k + 1 ≡ suc k
         one_more k = omega arith
+
+-- all of them are taken off
+none_left : {A : Type 0} (xs : List A) (n : ℕ) → length xs ≤ n → drop n xs ≡ []
+none_left [] zero few = refl
+none_left [] (suc n) few = refl
+none_left (x ∷ xs) zero few = absurd (omega arith)
+none_left (x ∷ xs) (suc n) few = none_left xs n (omega arith)
+
+pub all_spent : (slice held left : List Operand) → left ≡ drop (length slice) held → reverse slice ≡ held → left ≡ []
+all_spent slice held left takes is =
+    let many : length held ≡ length slice = ap length (sym is) ∙ length-reverse slice in
+    takes ∙ none_left held (length slice) (omega arith)

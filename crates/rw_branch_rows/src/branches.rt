@@ -1,4 +1,4 @@
-ghost use Rattle.std.specs.Prelude.{◌≡◌, None, drop, reverse};
+ghost use Rattle.std.specs.Prelude.{◌≡◌, [], None, OnOk, drop, reverse};
 ghost use Rattle.rich_types.specs.Scopes.{scope_of};
 ghost use Rattle.rich_rules.specs.Branches.{br_row, br_if_row};
 ghost use Rattle.rich_rules.specs.Points.{Ends, Gives, Outcome};
@@ -18,9 +18,9 @@ use rw_type_tests::is_same;
 use rw_types::{Pre, Qual, Ty};
 use std::alloc::Global;
 
-#[tactic(auto, using(rw_demands::proofs::Tails::marked_left))]
-/// `br` to the label of this number, which ends the list. It answers the first rule that is broken; want of memory alone is
-/// free.
+#[tactic(auto, using(rw_demands::proofs::Tails::marked_left, crate::proofs::Left::all_spent))]
+/// `br` to the label of this number, which ends the list: all operands are spent. It answers the first rule that is broken;
+/// want of memory alone is free.
 pub fn take_br(
     alloc: Global,
     c: &Ctx,
@@ -30,6 +30,7 @@ pub fn take_br(
     s: &mut Stack,
 ) -> Result<(), CapError>
     ensures row { Allows result (br_row (point_seen c.now.binders around.now locals.now s.old.operands) k) Ends }
+    ensures spent { OnOk result (s.new.operands ≡ []) }
     ensures spare { s.new.spare ≡ s.old.spare }
     ensures marked { AreOperands (scope_of c.now.binders) s.old.operands → AreOperands (scope_of c.now.binders) s.new.operands }
 {

@@ -1,4 +1,4 @@
-ghost use Rattle.std.specs.Prelude.{◌≡◌, reverse};
+ghost use Rattle.std.specs.Prelude.{◌≡◌, [], OnOk, reverse};
 ghost use Rattle.rich_types.specs.Scopes.{scope_of};
 ghost use Rattle.rich_rules.specs.Branches.{return_row};
 ghost use Rattle.rich_rules.specs.Points.{Ends, Outcome};
@@ -29,8 +29,9 @@ pub fn look_in_function(owner: Owner) -> Result<(), CapError>
     }
 }
 
-#[tactic(auto, using(rw_demands::proofs::Tails::marked_left))]
-/// `return`, which ends the list. It answers the first rule that is broken; want of memory alone is free.
+#[tactic(auto, using(rw_demands::proofs::Tails::marked_left, crate::proofs::Left::all_spent))]
+/// `return`, which ends the list: all operands are spent. It answers the first rule that is broken; want of memory alone
+/// is free.
 pub fn take_return(
     alloc: Global,
     c: &Ctx,
@@ -40,6 +41,7 @@ pub fn take_return(
     s: &mut Stack,
 ) -> Result<(), CapError>
     ensures row { Allows result (in_function (frame_seen f.now).owner (return_row (point_seen c.now.binders around.now locals.now s.old.operands))) Ends }
+    ensures spent { OnOk result (s.new.operands ≡ []) }
     ensures spare { s.new.spare ≡ s.old.spare }
     ensures marked { AreOperands (scope_of c.now.binders) s.old.operands → AreOperands (scope_of c.now.binders) s.new.operands }
 {
