@@ -1,0 +1,4 @@
+pub mod Binders
+pub mod Rests
+pub mod Found
+pub mod Rows
