@@ -1,5 +1,5 @@
 -- Rows that open what an operand hides, where that operand was taken.
-use Rattle.std.proofs.Common.{◌≡◌, ◌∙◌, ◌++◌, ℕ, List, [], ◌∷◌, Bool, None, Some, refl, ap, sym, length, reverse}
+use Rattle.std.proofs.Common.{◌≡◌, ◌∙◌, ◌++◌, ℕ, List, [], ◌∷◌, None, Some, refl, ap, sym, length, reverse}
 use Rattle.std.specs.Prelude.{◌==◌}
 use Rattle.std.proofs.Math.Path.{subst⁻¹}
 use Rattle.std.proofs.lemmas.List.{reverse-append}
@@ -16,7 +16,7 @@ use Rattle.rich_rules.specs.Forms.{is_rw}
 use Rattle.rich_rules.specs.Points as points
 use Rattle.rich_rules.specs.Points.{Frame, Point, Exactly, Outcome, Enters}
 use Rattle.rich_rules.specs.Raised.{below_one, raise_all, entered}
-use Rattle.rich_rules.specs.Takers.{Reference, need, one_over, hidden_form, package_form, variant_form}
+use Rattle.rich_rules.specs.Takers.{need, one_over, hidden_form, package_form, variant_form}
 use Rattle.rw_row_answers.specs.declared.answers.CapError.{CapError}
 use Rattle.rw_row_answers.specs.Answers.{Breaking}
 use Rattle.rw_block_rows.specs.declared.entries.Aim.TheVariants.{Behind}

@@ -6,7 +6,7 @@ ghost use Rattle.rw_operand_stack.specs.Operands.{types_of, AreOperands};
 ghost use Rattle.rw_block_rows.specs.Entries.{Opens, with_slots, standing};
 
 use crate::bound::entry_inside;
-use crate::forms::{look_cases, look_package, look_hidden};
+use crate::forms::{look_cases, look_hidden, look_package};
 use rw_block_rows::{Aim, Entry, entry_over, take_block_operand};
 use rw_operand_stack::Stack;
 use rw_quals_sizes::Ctx;
