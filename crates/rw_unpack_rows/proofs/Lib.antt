@@ -1,2 +1,3 @@
 pub mod Inside
+mod Rows
 pub mod Seen

@@ -5,6 +5,8 @@
 
 mod bound;
 mod forms;
+mod laws;
 mod unpacks;
 
+pub use laws::worked_unpacking;
 pub use unpacks::{enter_exist_unpack, enter_mem_unpack, enter_variant_case};
