@@ -1,5 +1,5 @@
 -- Rows of unpacking and of variants, with what is entered written out. This project's own.
-use Rattle.std.specs.Prelude.{◌≡◌, List, [], ◌∷◌, Some, None}
+use Rattle.std.specs.Prelude.{◌≡◌, [], ◌∷◌, Some, None}
 use Rattle.rw_types.specs.declared.instrs.BlockSig.{BlockSig}
 use Rattle.rw_types.specs.declared.types.Binder.TheVariants.{Loc, Kind}
 use Rattle.rw_types.specs.declared.types.Heap.TheVariants.{Variant, Exist}
