@@ -1,0 +1,3 @@
+pub mod Inside
+mod Rows
+pub mod Seen

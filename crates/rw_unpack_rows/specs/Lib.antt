@@ -1,0 +1,3 @@
+pub mod Bound
+pub mod Hiding
+pub mod Worked
