@@ -32,7 +32,7 @@ found (Some y ∷ xs) (Headed j n ∷ bs) zero x h e =
 found (Some y ∷ xs) (Headed j n ∷ bs) (suc i) x h e = found_behind x j n bs (found xs bs i x h.2 e)
 
 -- blocks that have no word in common
-apart_blocks : (x y : Extent) (j n k m : ℕ) → x.address ≡ 8 * suc j → x.words ≤ n → y.address ≡ 8 * suc k → y.words ≤ m
+pub apart_blocks : (x y : Extent) (j n k m : ℕ) → x.address ≡ 8 * suc j → x.words ≤ n → y.address ≡ 8 * suc k → y.words ≤ m
     → ((w : ℕ) → covers w j n + covers w k m ≤ 1) → AreApart x y
 apart_blocks x y j n k m a b c d once =
     ⊎_elim

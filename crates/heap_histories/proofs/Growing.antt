@@ -77,7 +77,7 @@ clear (Free b ∷ es) a = clear es a
 clear (Grant b n ∷ es) a = clear es a
 clear (Touch b n ∷ es) a = clear es a
 
-nothing_more : {X : Type 0} (xs : List X) → xs ++ [] ≡ xs
+pub nothing_more : {X : Type 0} (xs : List X) → xs ++ [] ≡ xs
 nothing_more [] = refl
 nothing_more (x ∷ xs) = ap (λ (ys : List _). x ∷ ys) (nothing_more xs)
 
