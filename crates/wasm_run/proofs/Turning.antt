@@ -31,7 +31,7 @@ in_start (Some n) k = (n, refl)
 
 pub may_allocate : (s : State)
     → (LeavesNext s.frames.code.now × IsBeforeNext s) ⊎ ((i : WInstr) × (rest : List WInstr) × (s.frames.code.now ≡ i ∷ rest) × Allocates (operation_of i)) → MayAllocate (config_of s)
-may_allocate s k = elim k [ inl (leaves, next, none) ↦ inl (in_start s.next_call next, none, leaves) | inr h ↦ inr h ]
+may_allocate s k = elim k [ inl (leaves, (next, none)) ↦ inl (in_start s.next_call next, none, leaves) | inr h ↦ inr h ]
 
 pub on_err : {A E : Type 0} {P : Type 0} → (r : Result A E) → P → OnErr r P
 on_err (Ok x) p = tt
