@@ -81,6 +81,7 @@ pub enum OperationRef<'a> {
 
 impl WInstr {
     /// What the instruction does.
+    #[inline(always)]
     pub fn operation(&self) -> OperationRef<'_>
         ensures operation { operation_seen result ≡ operation_of self.now }
         ensures short { HasShortLists (immediate_by (operation_seen result)) }

@@ -10,6 +10,8 @@ ghost use Rattle.wasm_call_steps.specs.Callers.{AreCalls};
 ghost use Rattle.wasm_frames.specs.Frames.{rows, here_now};
 ghost use Rattle.wasm_run_state.specs.States.{plain_now, config_of, Acts, Keeps};
 ghost use Rattle.wasm_run_dispatch.specs.Finding.{Allocates};
+ghost use Rattle.wasm_run_calls.specs.Parts.{IsBeforeNext};
+ghost use Rattle.wasm_machine.specs.Leaving.{Leaves};
 
 use machine_runs::Turn;
 use std::alloc::AllocError;
@@ -39,7 +41,7 @@ pub(crate) fn act<'a, F: Functions<'a>>(
     requires narrow { FitsItsType (operation_seen operation) }
     ensures does { Acts (environment_of (F.source functions.now)) (operation_seen operation.entry) rest.now state.old result state.new }
     ensures keeps { Keeps (context_of (F.source functions.now)) (environment_of (F.source functions.now)) state.old.frames state.new.frames }
-    ensures spare { OnErr result (Allocates (operation_seen operation.entry) ⊎ (state.old.next_call ≢ None)) }
+    ensures spare { OnErr result (Allocates (operation_seen operation.entry) ⊎ (Leaves (operation_seen operation.entry) × IsBeforeNext state.old)) }
 {
     match operation {
         OperationRef::Br(label) => branch_to(state, functions, label),

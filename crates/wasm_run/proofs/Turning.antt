@@ -18,6 +18,8 @@ use Rattle.wasm_run.proofs.Memoryless.{Stays, stays_empty}
 use Rattle.wasm_run_state.specs.States.{bottom_of, config_of}
 use Rattle.wasm_run_state.specs.declared.state.State.{State}
 use Rattle.wasm_run_dispatch.specs.Finding.{Allocates}
+use Rattle.wasm_run_calls.specs.Parts.{IsBeforeNext}
+use Rattle.wasm_machine.specs.Leaving.{LeavesNext}
 use Rattle.wasm_run.specs.Progress.{MayAllocate, Progress}
 
 abbrev pub progress : WModule → Config → ℕ → Option End → Progress
@@ -28,8 +30,8 @@ in_start None k = absurd (k refl)
 in_start (Some n) k = (n, refl)
 
 pub may_allocate : (s : State)
-    → (s.next_call ≢ None) ⊎ ((i : WInstr) × (rest : List WInstr) × (s.frames.code.now ≡ i ∷ rest) × Allocates (operation_of i)) → MayAllocate (config_of s)
-may_allocate s k = elim k [ inl h ↦ inl (in_start s.next_call h) | inr h ↦ inr h ]
+    → (LeavesNext s.frames.code.now × IsBeforeNext s) ⊎ ((i : WInstr) × (rest : List WInstr) × (s.frames.code.now ≡ i ∷ rest) × Allocates (operation_of i)) → MayAllocate (config_of s)
+may_allocate s k = elim k [ inl (leaves, (next, none)) ↦ inl (in_start s.next_call next, none, leaves) | inr h ↦ inr h ]
 
 pub on_err : {A E : Type 0} {P : Type 0} → (r : Result A E) → P → OnErr r P
 on_err (Ok x) p = tt

@@ -1,6 +1,6 @@
 -- How far a machine that runs a module has come, and its step (WebAssembly Core Specification 1.0, section 4.2; the counts are
 -- this project's own).
-use Rattle.std.specs.Prelude.{◌≡◌, ◌⊎◌, ℕ, ◌+◌, List, ◌∷◌, Option, Some, None}
+use Rattle.std.specs.Prelude.{◌≡◌, ◌⊎◌, ℕ, ◌+◌, List, [], ◌∷◌, Option, Some, None}
 use Rattle.std.specs.List.{flat_map}
 use Rattle.machine_steps.specs.declared.End.{End}
 use Rattle.machine_steps.specs.Steps.{Turn, Went, Ended, NoStep}
@@ -12,6 +12,7 @@ use Rattle.wasm_execution.specs.Environments.{environment_of}
 use Rattle.wasm_execution.specs.Starts.{Begins, start_of}
 use Rattle.wasm_execution.specs.Steps.{step}
 use Rattle.wasm_run_dispatch.specs.Finding.{Allocates}
+use Rattle.wasm_machine.specs.Leaving.{LeavesNext}
 
 -- the module, the configuration, how many steps were made, and how the run has ended, where it has
 pub record Progress : Type 0 where
@@ -50,7 +51,7 @@ pub record IsBegun (m : WModule) (p : Progress) : Type 0 where
 abbrev pub IsInStart : Config → Type 0
 IsInStart c = (n : ℕ) × (c.bottom ≡ ThenCall n)
 
--- memory may be wanting for a step: for a call, for a list that is opened, for a growth of the memory, and while the start
--- function runs
+-- memory may be wanting for a step: for a call, for a list that is opened, for a growth of the memory, and where the start
+-- function itself may be left
 abbrev pub MayAllocate : Config → Type 0
-MayAllocate c = IsInStart c ⊎ ((i : WInstr) × (rest : List WInstr) × (c.here.rest ≡ i ∷ rest) × Allocates (operation_of i))
+MayAllocate c = (IsInStart c × (c.callers ≡ []) × LeavesNext c.here.rest) ⊎ ((i : WInstr) × (rest : List WInstr) × (c.here.rest ≡ i ∷ rest) × Allocates (operation_of i))

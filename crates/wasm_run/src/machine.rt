@@ -82,8 +82,8 @@ impl<'a> Machine<'a> {
     }
 
     /// Makes a step, where the machine has not ended; one that has answers its end again, and no step is counted. `AllocError`
-    /// leaves the machine as it was, and comes only from a call, a list that is opened, a growth of the memory, or while the
-    /// start function runs.
+    /// leaves the machine as it was, and comes only from a call, a list that is opened, a growth of the memory, or where
+    /// the start function may be left: at its end, by a branch or by `return`.
     pub fn step(&mut self) -> Result<Turn, AllocError>
         requires { self.old.steps + 1 < 2 ^ 64 }
         ensures turns { Turns next_of ended_of steps_of self.old result self.new }

@@ -102,6 +102,10 @@ IsCallee m n (Host params) = (ty : FuncType) × (function_at (environment_of m) 
 abbrev pub IsNext : Environment → ℕ → Type 0
 IsNext e n = (ty : FuncType) × (code : Code) × (function_at e n ≡ Some (of_code ty (Some code)))
 
+-- the first call runs, and no other, and another function is called when it is over
+abbrev pub IsBeforeNext : State → Type 0
+IsBeforeNext s = (s.next_call ≢ None) × (callers_now s.frames ≡ [])
+
 -- what follows the first call, which gives this
 abbrev pub following : Environment → List ℕ → Part
 following e vs here c = give e vs [] c.bottom c

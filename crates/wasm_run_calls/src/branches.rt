@@ -6,7 +6,7 @@ ghost use Rattle.wasm_execution.specs.Control as control;
 ghost use Rattle.wasm_call_steps.specs.Callers.{AreCalls};
 ghost use Rattle.wasm_frames.specs.Frames.{rows};
 ghost use Rattle.wasm_run_state.specs.States.{Keeps};
-ghost use Rattle.wasm_run_calls.specs.Parts.{EndsAsBefore, EndsWithOperand, LeadsOn, PartActs, label_in, leaving};
+ghost use Rattle.wasm_run_calls.specs.Parts.{EndsAsBefore, EndsWithOperand, IsBeforeNext, LeadsOn, PartActs, label_in, leaving};
 
 use crate::callee::Functions;
 use crate::operands::put_back;
@@ -28,7 +28,7 @@ pub fn branch_to<'a, F: Functions<'a>>(
     ensures does { (rest : List InstructionOf) → PartActs (control.branch_to (environment_of (F.source functions.now)) label) rest state.old result state.new }
     ensures keeps { Keeps (context_of (F.source functions.now)) (environment_of (F.source functions.now)) state.old.frames state.new.frames }
     ensures stays { EndsAsBefore result state.old state.new }
-    ensures spare { OnErr result (state.old.next_call ≢ None) }
+    ensures spare { OnErr result (IsBeforeNext state.old) }
 {
     if (label as usize) < state.frames.levels.len() {
         branch(&mut state.frames, label);
@@ -48,7 +48,7 @@ pub fn finish_list<'a, F: Functions<'a>>(
     ensures does { PartActs (leaving (environment_of (F.source functions.now))) [] state.old result state.new }
     ensures keeps { Keeps (context_of (F.source functions.now)) (environment_of (F.source functions.now)) state.old.frames state.new.frames }
     ensures stays { EndsAsBefore result state.old state.new }
-    ensures spare { OnErr result (state.old.next_call ≢ None) }
+    ensures spare { OnErr result (IsBeforeNext state.old) }
 {
     if state.frames.levels.len() > 0 {
         leave_list(&mut state.frames);
@@ -70,7 +70,7 @@ fn branch_on<'a, F: Functions<'a>>(
     ensures does { (rest : List InstructionOf) → PartActs (control.branch_to (environment_of (F.source functions.now)) label) rest state.old result state.new }
     ensures keeps { Keeps (context_of (F.source functions.now)) (environment_of (F.source functions.now)) state.old.frames state.new.frames }
     ensures back { EndsWithOperand condition result state.old state.new }
-    ensures spare { OnErr result (state.old.next_call ≢ None) }
+    ensures spare { OnErr result (IsBeforeNext state.old) }
 {
     match branch_to(state, functions, label) {
         Ok(Turn::Went) => Ok(Turn::Went),
@@ -98,7 +98,7 @@ pub fn branch_if<'a, F: Functions<'a>>(
     ensures does { PartActs (control.branch_if (environment_of (F.source functions.now)) label) rest.now state.old result state.new }
     ensures keeps { Keeps (context_of (F.source functions.now)) (environment_of (F.source functions.now)) state.old.frames state.new.frames }
     ensures stays { EndsAsBefore result state.old state.new }
-    ensures spare { OnErr result (state.old.next_call ≢ None) }
+    ensures spare { OnErr result (IsBeforeNext state.old) }
 {
     let condition = state.frames.values.pop();
     if condition == 0 {
@@ -131,7 +131,7 @@ pub fn branch_by_table<'a, F: Functions<'a>>(
     ensures does { (rest : List InstructionOf) → PartActs (control.branch_table (environment_of (F.source functions.now)) labels.now default) rest state.old result state.new }
     ensures keeps { Keeps (context_of (F.source functions.now)) (environment_of (F.source functions.now)) state.old.frames state.new.frames }
     ensures stays { EndsAsBefore result state.old state.new }
-    ensures spare { OnErr result (state.old.next_call ≢ None) }
+    ensures spare { OnErr result (IsBeforeNext state.old) }
 {
     let n = state.frames.values.pop();
     branch_on(state, functions, n, label_at(labels, default, n))

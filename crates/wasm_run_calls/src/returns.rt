@@ -6,7 +6,7 @@ ghost use Rattle.wasm_levels.specs.Lists.{count_of};
 ghost use Rattle.wasm_call_steps.specs.Callers.{AreCalls};
 ghost use Rattle.wasm_frames.specs.Frames.{rows, callers_now};
 ghost use Rattle.wasm_run_state.specs.States.{Keeps};
-ghost use Rattle.wasm_run_calls.specs.Parts.{giving, following, EndsAsBefore, IsNext, LeadsOn, PartActs};
+ghost use Rattle.wasm_run_calls.specs.Parts.{giving, following, EndsAsBefore, IsBeforeNext, IsNext, LeadsOn, PartActs};
 
 use crate::callee::{Callee, Functions};
 use crate::calls::last_argument;
@@ -29,7 +29,7 @@ fn begin_next<'a, F: Functions<'a>>(
     ensures does { (vs : List ℕ) → PartActs (following (environment_of (F.source functions.now)) vs) [] state.old result state.new }
     ensures keeps { Keeps (context_of (F.source functions.now)) (environment_of (F.source functions.now)) state.old.frames state.new.frames }
     ensures stays { EndsAsBefore result state.old state.new }
-    ensures spare { OnErr result (state.old.next_call ≢ None) }
+    ensures spare { OnErr result (IsBeforeNext state.old) }
 {
     match functions.callee(next) {
         Callee::Module(called) => {
@@ -60,7 +60,7 @@ fn give<'a, F: Functions<'a>>(
     ensures does { PartActs (giving (environment_of (F.source functions.now)) gives state.old) [] state.old result state.new }
     ensures keeps { Keeps (context_of (F.source functions.now)) (environment_of (F.source functions.now)) state.old.frames state.new.frames }
     ensures stays { EndsAsBefore result state.old state.new }
-    ensures spare { OnErr result (state.old.next_call ≢ None) }
+    ensures spare { OnErr result (IsBeforeNext state.old) }
 {
     if leave_call(&mut state.frames, gives) {
         return Ok(Turn::Went);
@@ -81,7 +81,7 @@ pub fn return_now<'a, F: Functions<'a>>(
     ensures does { PartActs (machine.return_now (environment_of (F.source functions.now))) [] state.old result state.new }
     ensures keeps { Keeps (context_of (F.source functions.now)) (environment_of (F.source functions.now)) state.old.frames state.new.frames }
     ensures stays { EndsAsBefore result state.old state.new }
-    ensures spare { OnErr result (state.old.next_call ≢ None) }
+    ensures spare { OnErr result (IsBeforeNext state.old) }
 {
     let gives = functions.gives(state.frames.function);
     give(state, functions, gives)
@@ -97,7 +97,7 @@ pub(crate) fn return_at_end<'a, F: Functions<'a>>(
     ensures does { PartActs (machine.return_at_end (environment_of (F.source functions.now))) [] state.old result state.new }
     ensures keeps { Keeps (context_of (F.source functions.now)) (environment_of (F.source functions.now)) state.old.frames state.new.frames }
     ensures stays { EndsAsBefore result state.old state.new }
-    ensures spare { OnErr result (state.old.next_call ≢ None) }
+    ensures spare { OnErr result (IsBeforeNext state.old) }
 {
     let gives = functions.gives(state.frames.function);
     give(state, functions, gives)

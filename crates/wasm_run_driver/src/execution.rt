@@ -2,7 +2,7 @@
 ghost use Rattle.std.specs.Prelude.{◌≡◌};
 
 use crate::answer::{Ending, Refusal};
-use rw_io::OsSink;
+use rw_io::{MemSink, OsSink};
 use std::alloc::Global;
 use std::io;
 use wasm_decode::decode;
@@ -21,6 +21,9 @@ enum Manner {
 pub fn execute(rt: &HostRuntime, line: &str) -> io::Result<()> {
     if let Some(case) = line.strip_prefix("step ") {
         return answer(rt, Manner::Step, case);
+    }
+    if let Some(case) = line.strip_prefix("sink ") {
+        return answer_into(rt, case);
     }
     match line.strip_prefix("look ") {
         Some(case) => answer(rt, Manner::Look, case),
@@ -97,6 +100,61 @@ fn step_through(
         }
     }
     Ok(Ok(Outcome::Spent))
+}
+
+/// Answers a line whose run puts its lines into a sink in memory, of which one put fails and which takes so many bytes a put.
+fn answer_into(rt: &HostRuntime, case: &str) -> io::Result<()> {
+    let Some((sink, case)) = read_sink(rt.alloc(), case) else {
+        return println!(rt; "{}", Refusal::Unread);
+    };
+    let refusal = match read(rt.alloc(), case) {
+        Ok((steps, valid)) => match Machine::new(rt.alloc(), &valid) {
+            Ok(machine) => return run_into(rt, machine, sink, steps),
+            Err(error) => Refusal::NotStarted(error),
+        },
+        Err(refusal) => refusal,
+    };
+    println!(rt; "{refusal}")
+}
+
+/// The sink of a case, and what stands behind it.
+fn read_sink(alloc: Global, case: &str) -> Option<(MemSink, &str)> {
+    let (fails, case) = case.split_once(' ')?;
+    let (most, case) = case.split_once(' ')?;
+    let mut calls = Vec::new(alloc);
+    calls.push(fails.parse::<u64>().ok()?).ok()?;
+    let most = most.parse::<u32>().ok()?;
+    Some((MemSink::new(alloc, calls, most as usize), case))
+}
+
+/// Runs a machine so many steps in all; behind a fault of the sink the run is taken up again, at most three times. Each way that
+/// a call ended is told, and then the bytes that the sink took.
+fn run_into(
+    rt: &HostRuntime,
+    machine: Machine<'_>,
+    sink: MemSink,
+    steps: u64,
+) -> io::Result<()> {
+    let mut machine = machine;
+    let mut sink = sink;
+    for _ in 0..4 {
+        let left = steps.saturating_sub(machine.steps());
+        let outcome = machine.run(left, &mut sink);
+        let is_over = outcome.is_ok();
+        let ending = Ending {
+            outcome,
+            steps: machine.steps(),
+        };
+        println!(rt; "{ending}")?;
+        if is_over {
+            break;
+        }
+    }
+    print!(rt; "took")?;
+    for byte in sink.bytes() {
+        print!(rt; " {byte}")?;
+    }
+    println!(rt; "")
 }
 
 /// Tells the memory and the globals.

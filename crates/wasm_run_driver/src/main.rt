@@ -7,7 +7,10 @@
 //! - `malformed at N FAULT`: the first fault of a binary that is not decoded.
 //!
 //! Behind the word `step` the machine makes each step by itself. Behind the word `look` two lines more tell how many bytes the
-//! memory has, with the numbers and values of those that are not 0, and the globals.
+//! memory has, with the numbers and values of those that are not 0, and the globals. Behind the word `sink` stand two numbers more:
+//! the lines go into a sink whose put with the first number fails, counted from 0, and which takes as many bytes a put as the second
+//! number says; the run is taken up again behind a fault, at most three times, and each way that it stopped is told, and then the bytes
+//! that were taken.
 #![tactic(auto)]
 
 mod answer;
