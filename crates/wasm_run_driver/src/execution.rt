@@ -129,12 +129,7 @@ fn read_sink(alloc: Global, case: &str) -> Option<(MemSink, &str)> {
 
 /// Runs a machine so many steps in all; behind a fault of the sink the run is taken up again, at most three times. Each way that
 /// a call ended is told, and then the bytes that the sink took.
-fn run_into(
-    rt: &HostRuntime,
-    machine: Machine<'_>,
-    sink: MemSink,
-    steps: u64,
-) -> io::Result<()> {
+fn run_into(rt: &HostRuntime, machine: Machine<'_>, sink: MemSink, steps: u64) -> io::Result<()> {
     let mut machine = machine;
     let mut sink = sink;
     for _ in 0..4 {
