@@ -1,0 +1,4 @@
+pub mod Parts
+pub mod Entered
+pub mod Blocks
+pub mod Loops
